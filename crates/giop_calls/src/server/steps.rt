@@ -1,6 +1,7 @@
 //! What each event does to a call at a server (CORBA 3.3 Part 2, 9.4 and 9.6), a function for each.
 //! None takes memory. The table is specs/ServerTable.antt, a definition for each: change both.
 ghost use Rattle.std.specs.Prelude.{◌≡◌, ◌==◌, Some};
+ghost use Rattle.std.specs.Option.{option_or};
 ghost use Rattle.giop_calls.specs.ServerTable as table;
 ghost use Rattle.giop_calls.specs.declared.server.entry.ServerEntry.TheVariants.{Asked, Gathering};
 ghost use Rattle.giop_calls.specs.Messages.{is_same_version, is_system_exception};
@@ -101,24 +102,19 @@ pub fn begin_at(entry: &mut ServerEntry, next: ServerEntry) -> Result<(), CallFa
 pub fn more(entry: Option<ServerEntry>, in_order: bool) -> ServerStep
     ensures { result ≡ table.more entry in_order }
 {
-    match entry {
-        Some(ServerEntry::Gathering { kind }) => gather(kind, in_order),
-        Some(ServerEntry::Cancelled { answered, left }) => {
-            becomes(ServerEntry::Cancelled { answered, left })
-        }
-        entry => refused(entry, CallFault::Stray),
-    }
+    let outcome = fragment(&entry, in_order);
+    Step { entry, outcome }
 }
 
+// Whether a Fragment may come with this entry, or how it is refused.
 #[inline(always)]
-fn gather(kind: CallKind, in_order: bool) -> ServerStep
-    ensures { result ≡ table.more (Some (Gathering kind)) in_order }
+fn fragment(entry: &Option<ServerEntry>, in_order: bool) -> Result<(), CallFault>
+    ensures { result ≡ (table.more entry.now in_order).outcome }
 {
-    let entry = ServerEntry::Gathering { kind };
-    if in_order {
-        becomes(entry)
-    } else {
-        refused(Some(entry), CallFault::OrderDiffers)
+    match entry {
+        Some(ServerEntry::Gathering { .. }) if !in_order => Err(CallFault::OrderDiffers),
+        Some(ServerEntry::Gathering { .. } | ServerEntry::Cancelled { .. }) => Ok(()),
+        _ => Err(CallFault::Stray),
     }
 }
 
@@ -126,26 +122,11 @@ fn gather(kind: CallKind, in_order: bool) -> ServerStep
 pub fn last(entry: Option<ServerEntry>, in_order: bool, call: HeardCall) -> ServerStep
     ensures { result ≡ table.last entry in_order call }
 {
-    match entry {
-        Some(ServerEntry::Gathering { kind }) => complete(kind, in_order, call),
-        Some(ServerEntry::Cancelled { answered, left }) => {
-            becomes(ServerEntry::Cancelled { answered, left })
-        }
-        entry => refused(entry, CallFault::Stray),
-    }
-}
-
-#[inline(always)]
-fn complete(kind: CallKind, in_order: bool, call: HeardCall) -> ServerStep
-    ensures { result ≡ table.last (Some (Gathering kind)) in_order call }
-{
-    if in_order {
+    let outcome = fragment(&entry, in_order);
+    if outcome.is_ok() && matches!(&entry, Some(ServerEntry::Gathering { .. })) {
         becomes(arrived(call))
     } else {
-        refused(
-            Some(ServerEntry::Gathering { kind }),
-            CallFault::OrderDiffers,
-        )
+        Step { entry, outcome }
     }
 }
 
@@ -165,20 +146,31 @@ pub fn cancel(entry: Option<ServerEntry>) -> ServerStep
 fn cancelled(entry: Option<ServerEntry>) -> Option<ServerEntry>
     ensures { result ≡ (table.cancel entry).entry }
 {
+    match &entry {
+        Some(call) => cancelled_call(call).or(entry),
+        None => None,
+    }
+}
+
+// The entry that a CancelRequest leaves in place of this one; `None` where it changes nothing.
+#[inline(always)]
+fn cancelled_call(entry: &ServerEntry) -> Option<ServerEntry>
+    ensures { option_or result (Some entry.now) ≡ (table.cancel (Some entry.now)).entry }
+{
     match entry {
-        Some(ServerEntry::Gathering { .. }) => Some(DROPPED),
-        Some(ServerEntry::Asked { .. }) => Some(DROPPED),
-        Some(ServerEntry::LocateAsked { .. }) => Some(DROPPED),
-        Some(ServerEntry::Undecoded { call }) if call.expects.is_some() => Some(DROPPED),
-        Some(ServerEntry::Answered { left, .. }) => Some(ServerEntry::Cancelled {
+        ServerEntry::Gathering { .. }
+        | ServerEntry::LocateAsked { .. }
+        | ServerEntry::Asked { .. } => Some(DROPPED),
+        ServerEntry::Undecoded { call } if call.expects.is_some() => Some(DROPPED),
+        ServerEntry::Answered { left, .. } => Some(ServerEntry::Cancelled {
             answered: true,
-            left,
+            left: *left,
         }),
-        Some(ServerEntry::LocateAnswered { .. }) => Some(ServerEntry::Cancelled {
+        ServerEntry::LocateAnswered { .. } => Some(ServerEntry::Cancelled {
             answered: true,
             left: 0,
         }),
-        entry => entry,
+        _ => None,
     }
 }
 
