@@ -6,7 +6,7 @@ ghost use Rattle.giop_end.specs.Pumping.{between};
 ghost use Rattle.giop_end.specs.Ends.View.{IsActedOn, IsTurned};
 ghost use Rattle.giop_commands.specs.Session.Acts.{outbox_of};
 ghost use Rattle.giop_calls.specs.ClientTable.{is_closed};
-ghost use Rattle.giop_calling.specs.Call.Calling.{CallsAll, CallsOne, ConversesAt, TalksAt, WaitsFor, asked_of, request_of};
+ghost use Rattle.giop_calling.specs.Call.Calling.{CallsAll, CallsOne, ConversesAt, IsNew, TalksAt, WaitsFor, asked_of, request_of};
 ghost use Rattle.giop_calling.specs.Call.Endings.{CallsEndOver};
 ghost use Rattle.giop_commands.specs.Session.Endings.{Ends};
 ghost use Rattle.giop_calling.specs.Call.Printed.{call_status, Calls, CallsOver, client_text};
@@ -83,21 +83,30 @@ pub fn call_over<R: Read, W: Write, O: Write>(
     ensures { IfOk result (CallsEndOver calling.entry calls.items
         (traffic R.remaining W.contents O.contents pipes.old pipes.new)) }
 {
+    let mut end = ClientEnd::new(alloc, calling.interface, calling.limits);
+    call_with(alloc, &mut end, calling, calls, pipes)
+}
+
+// Calls by a new end, and prints its table.
+fn call_with<R: Read, W: Write, O: Write>(
+    alloc: Global,
+    end: &mut ClientEnd<'_>,
+    calling: Calling<'_>,
+    calls: Vec<CallLine>,
+    pipes: &mut Pipes<R, W, O>,
+) -> Result<Ending, Failure>
+    requires { IsNew calling end.old }
+    ensures { IfOk result (CallsEndOver calling.entry calls.items
+        (traffic R.remaining W.contents O.contents pipes.old pipes.new)) }
+{
     let (lines, interface) = (calling.lines, calling.interface);
     let showing = Showing { lines, interface };
-    let mut end = ClientEnd::new(alloc, interface, calling.limits);
-    let refused = call_all(alloc, &mut end, calling, calls)?;
-    match talk(
-        alloc,
-        &mut end,
-        refused,
-        &mut pipes.reader,
-        &mut pipes.writer,
-    ) {
-        Ok(()) => tell(alloc, showing, &end, refused, &mut pipes.out),
+    let refused = call_all(alloc, end, calling, calls)?;
+    match talk(alloc, end, refused, &mut pipes.reader, &mut pipes.writer) {
+        Ok(()) => tell(alloc, showing, end, refused, &mut pipes.out),
         Err(Failure::Memory) => Err(Failure::Memory),
         Err(failure) => {
-            write_session(alloc, showing, &end, None, &mut pipes.out)?;
+            write_session(alloc, showing, end, None, &mut pipes.out)?;
             pipes.out.flush()?;
             Err(failure)
         }

@@ -2,6 +2,7 @@
 ghost use Rattle.std.specs.Prelude.{◌≡◌, ◌≢◌, [], IfOk, OnOk, Some, None, length};
 ghost use Rattle.std.specs.Io.KnownBytes.{Appends, IsAtEnd};
 ghost use Rattle.giop_end.specs.declared.session_fault.SessionFault.TheVariants.{NoMemory};
+ghost use Rattle.giop_end.specs.Ends.Begun.{no_calls};
 ghost use Rattle.giop_end.specs.Hearing.Heard.{hears_in};
 ghost use Rattle.giop_commands.specs.Check.{AreLimits, Checks, ChecksKnown, HeardKnown, default_limits, fault_status, last_status};
 ghost use Rattle.giop_show.specs.Dump.Text.{ended};
@@ -87,10 +88,31 @@ pub fn check_stream<R: Read, W: Write>(
         → IsAtEnd (R.remaining reader.new)) }
 {
     let mut end = ServerEnd::new(alloc, interface, checking.limits);
-    hear(alloc, &mut end, reader, checking.behind)?;
-    write_table(alloc, checking.lines, interface, &end, writer)?;
-    let status = write_last(checking.lines, &end, writer)?;
-    strictly(alloc, checking.strict, &end, status)
+    check_with(alloc, interface, checking, &mut end, reader, writer)
+}
+
+// Checks by a new end.
+fn check_with<R: Read, W: Write>(
+    alloc: Global,
+    interface: &Interface,
+    checking: Checking,
+    end: &mut ServerEnd<'_>,
+    reader: &mut R,
+    writer: &mut W,
+) -> Result<Status, Failure>
+    requires interface { end.old.interface.now ≡ interface.now }
+    requires calls { end.old.calls ≡ no_calls (record {}) checking.limits }
+    requires unread { end.old.framer ≡ record { limit = checking.limits.message; octets = [] } }
+    requires sound { end.old.fault ≡ None }
+    ensures text { IfOk result (ChecksKnown interface.now checking.limits checking.strict
+        checking.lines (R.remaining reader.old) (W.contents writer.old) (W.contents writer.new)) }
+    ensures end { OnOk result (checking.behind ≡ BehindFault.Read
+        → IsAtEnd (R.remaining reader.new)) }
+{
+    hear(alloc, end, reader, checking.behind)?;
+    write_table(alloc, checking.lines, interface, end, writer)?;
+    let status = write_last(checking.lines, end, writer)?;
+    strictly(alloc, checking.strict, end, status)
 }
 
 // Feeds an end with what a reader gives, to its end or to the first fault.

@@ -7,7 +7,7 @@ ghost use Rattle.giop_calls.specs.ServerTable.{is_closed};
 ghost use Rattle.giop_show.specs.Dump.Text.{ended};
 ghost use Rattle.giop_commands.specs.Session.Endings.{Ends};
 ghost use Rattle.giop_serving.specs.Serve.Endings.{ServesEndOver};
-ghost use Rattle.giop_serving.specs.Serve.Serving.{ConversesOver};
+ghost use Rattle.giop_serving.specs.Serve.Serving.{ConversesOver, IsNew};
 ghost use Rattle.giop_serving.specs.Serve.Printed.{connection_in, serve_status, served_text, Serves, ServesOver};
 ghost use Rattle.giop_commands.specs.Session.Traffic.{traffic};
 
@@ -86,22 +86,34 @@ pub fn serve_over<R: Read, W: Write, O: Write>(
     ensures { IfOk result (ServesEndOver number serving.entry passed.old passed.new
         (traffic R.remaining W.contents O.contents pipes.old pipes.new)) }
 {
+    let mut end = ServerEnd::new(alloc, serving.interface, serving.limits);
+    serve_with(alloc, number, &mut end, serving, passed, pipes)
+}
+
+// Answers by a new end, and prints its table.
+fn serve_with<R: Read, W: Write, O: Write>(
+    alloc: Global,
+    number: u32,
+    end: &mut ServerEnd<'_>,
+    serving: Serving<'_>,
+    passed: &mut Passed,
+    pipes: &mut Pipes<R, W, O>,
+) -> Result<Ending, Failure>
+    requires { IsNew serving end.old }
+    ensures { IfOk result (ServesEndOver number serving.entry passed.old passed.new
+        (traffic R.remaining W.contents O.contents pipes.old pipes.new)) }
+{
     let (lines, interface) = (serving.lines, serving.interface);
     let showing = Showing { lines, interface };
-    let mut end = ServerEnd::new(alloc, interface, serving.limits);
-    match converse(alloc, &mut end, serving, passed, pipes) {
-        Ok(refused) => tell(
-            alloc,
-            number,
-            showing,
-            &end,
-            told(refused, end.fault()),
-            &mut pipes.out,
-        ),
+    match converse(alloc, end, serving, passed, pipes) {
+        Ok(refused) => {
+            let ended = told(refused, end.fault());
+            tell(alloc, number, showing, end, ended, &mut pipes.out)
+        }
         Err(Failure::Memory) => Err(Failure::Memory),
         Err(failure) => {
             write_connection(lines, number, &mut pipes.out)?;
-            write_session(alloc, showing, &end, None, &mut pipes.out)?;
+            write_session(alloc, showing, end, None, &mut pipes.out)?;
             pipes.out.flush()?;
             Err(failure)
         }

@@ -1,7 +1,7 @@
 //! `dump`: each message of a file, and how the file ends. Its meaning is `Dumps` and `DumpsKnown`
 //! in specs/Dump/Text.antt, of the telling that specs/Dump/Heads.antt or Bodies.antt says: change
 //! them together.
-ghost use Rattle.std.specs.Prelude.{◌≡◌, ◌++◌, IfErr, IfOk, OnOk};
+ghost use Rattle.std.specs.Prelude.{◌≡◌, ◌++◌, [], IfErr, IfOk, OnOk};
 ghost use Rattle.std.specs.Io.KnownBytes.{IsAtEnd};
 ghost use Rattle.giop_types.specs.declared.json.number_form.NumberForm.TheVariants.{Plain};
 ghost use Rattle.giop_show.specs.Dump.Bodies.{telling_of};
@@ -101,6 +101,26 @@ pub fn dump_by<R: Read, W: Write>(
 {
     let mut framer = Framer::new(alloc, limit);
     let mut buffer = PieceBuffer::new(alloc)?;
+    dump_with(&mut framer, &mut buffer, teller, reader, writer, behind)
+}
+
+// Does so by a new framer, with room for a piece.
+fn dump_with<R: Read, W: Write>(
+    framer: &mut Framer,
+    buffer: &mut PieceBuffer,
+    teller: &mut Teller<'_>,
+    reader: &mut R,
+    writer: &mut W,
+    behind: BehindFault,
+) -> Result<Status, Failure>
+    requires lists { teller.old.gather.lists ≡ no_lists }
+    requires unread { framer.old.octets ≡ [] }
+    ensures text { IfOk result (DumpsKnown (telling_of teller.old) framer.old.limit
+        (R.remaining reader.old) (W.contents writer.old) (W.contents writer.new)) }
+    ensures end { OnOk result (behind ≡ BehindFault.Read → IsAtEnd (R.remaining reader.new)) }
+    ensures done { IfOk result (λ status. status ≡ Status.Done → IsAtEnd (R.remaining reader.new)) }
+    ensures judged { IfOk result IsJudged }
+{
     let mut at = 0usize;
     'messages: for _ in 0..u64::MAX {
         match framer.next() {
@@ -118,11 +138,11 @@ pub fn dump_by<R: Read, W: Write>(
                 if piece.is_empty() {
                     return write_rest(teller.form, framer.rest(), writer);
                 }
-                feed(&mut framer, piece)?;
+                feed(framer, piece)?;
             }
             Err(fault) => {
                 if behind == BehindFault::Read {
-                    drain(&mut buffer, reader)?;
+                    drain(buffer, reader)?;
                 }
                 return write_fault(teller.form, at, fault, writer);
             }

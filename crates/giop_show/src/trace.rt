@@ -1,12 +1,11 @@
 //! `trace`: both directions of one connection, a line for each call when it is over.
 ghost use Rattle.std.specs.Prelude.{◌≡◌, ◌↔◌, [], None, IfNone, IfSome, IfOk, OnOk, false, true};
-ghost use Rattle.std.specs.FinMap as finite;
 ghost use Rattle.std.specs.Io.KnownBytes.{Appends, IsAtEnd, Keeps};
 ghost use Rattle.giop_trace.specs.Observing.{left};
 ghost use Rattle.giop_show.specs.Status.{IsJudged};
 ghost use Rattle.giop_show.specs.Trace.Outcome.{status_of_both};
-ghost use Rattle.giop_show.specs.Trace.Loops.{BothAreHeard, ClientIsHeard, IsHeardOut, IsNextOfServer, SameForm, ServerEnds, ServerIsHeard, lines_by};
-ghost use Rattle.giop_show.specs.Trace.Text.{Traces, all_open, flow_line, is_alone, over_as, still_open};
+ghost use Rattle.giop_show.specs.Trace.Loops.{BothAreHeard, ClientIsHeard, IsBegun, IsHeardOut, IsNextOfServer, SameForm, ServerEnds, ServerIsHeard, lines_by};
+ghost use Rattle.giop_show.specs.Trace.Text.{Traces, all_open, flow_line, over_as, still_open};
 
 mod answer_part;
 mod answered;
@@ -101,31 +100,66 @@ pub fn trace_stream<C: Read, S: Read, W: Write>(
 {
     let mut tracing = begun(alloc, limit, form, heard)?;
     match heard {
-        Heard::Client => {
-            hear_client(alloc, interface, &mut tracing, client, writer)?;
-            write_open(alloc, interface, &tracing, writer)?;
-            tracing.client.write_end(form, Direction::Client, writer)
-        }
-        Heard::Both => {
-            hear_both(alloc, interface, &mut tracing, client, server, writer)?;
-            write_open(alloc, interface, &tracing, writer)?;
-            let client = tracing.client.write_end(form, Direction::Client, writer)?;
-            let server = tracing.server.write_end(form, Direction::Server, writer)?;
-            Ok(status_of_both(client, server))
-        }
+        Heard::Client => trace_client(alloc, interface, &mut tracing, client, writer),
+        Heard::Both => trace_both(alloc, interface, &mut tracing, client, server, writer),
     }
+}
+
+// Traces what the client sent, alone, from its beginning.
+fn trace_client<C: Read, W: Write>(
+    alloc: Global,
+    interface: &Interface,
+    tracing: &mut Tracing,
+    client: &mut C,
+    writer: &mut W,
+) -> Result<Status, Failure>
+    requires { IsBegun Heard.Client tracing.old }
+    ensures client { IfOk result (λ status. status ≡ Status.Done
+        → IsAtEnd (C.remaining client.new)) }
+    ensures text { OnOk result (Traces tracing.old.form interface.now
+        tracing.old.client.framer.limit Heard.Client (C.remaining client.old) None
+        (W.contents writer.old) (W.contents writer.new)) }
+    ensures judged { IfOk result IsJudged }
+{
+    hear_client(alloc, interface, tracing, client, writer)?;
+    write_open(alloc, interface, tracing, writer)?;
+    tracing
+        .client
+        .write_end(tracing.form, Direction::Client, writer)
+}
+
+// Traces what both sent, from the beginning.
+fn trace_both<C: Read, S: Read, W: Write>(
+    alloc: Global,
+    interface: &Interface,
+    tracing: &mut Tracing,
+    client: &mut C,
+    server: &mut S,
+    writer: &mut W,
+) -> Result<Status, Failure>
+    requires { IsBegun Heard.Both tracing.old }
+    ensures client { IfOk result (λ status. status ≡ Status.Done
+        → IsAtEnd (C.remaining client.new)) }
+    ensures server { IfOk result (λ status. status ≡ Status.Done
+        → IsAtEnd (S.remaining server.new)) }
+    ensures text { OnOk result (Traces tracing.old.form interface.now
+        tracing.old.client.framer.limit Heard.Both (C.remaining client.old)
+        (S.remaining server.old) (W.contents writer.old) (W.contents writer.new)) }
+    ensures judged { IfOk result IsJudged }
+{
+    hear_both(alloc, interface, tracing, client, server, writer)?;
+    write_open(alloc, interface, tracing, writer)?;
+    let form = tracing.form;
+    let client = tracing.client.write_end(form, Direction::Client, writer)?;
+    let server = tracing.server.write_end(form, Direction::Server, writer)?;
+    Ok(status_of_both(client, server))
 }
 
 // Nothing of a connection is read. Messages of both directions may have this size.
 fn begun(alloc: Global, limit: u32, form: LineForm, heard: Heard) -> Result<Tracing, AllocError>
-    ensures client { IfOk result (λ tracing. tracing.client.framer.limit ≡ limit) }
-    ensures server { IfOk result (λ tracing. tracing.server.framer.limit ≡ limit) }
+    ensures limit { IfOk result (λ tracing. tracing.client.framer.limit ≡ limit) }
     ensures form { IfOk result (λ tracing. tracing.form ≡ form) }
-    ensures unread { IfOk result (λ tracing. (tracing.client.framer.octets ≡ [])
-        × (tracing.server.framer.octets ≡ [])) }
-    ensures held { IfOk result (λ tracing. tracing.held ≡ None) }
-    ensures calls { IfOk result (λ tracing. tracing.observer.calls.entries ≡ finite.empty) }
-    ensures alone { IfOk result (λ tracing. tracing.observer.alone ≡ is_alone heard) }
+    ensures begun { IfOk result (IsBegun heard) }
 {
     Ok(Tracing {
         form,

@@ -56,6 +56,15 @@ ClientCalls = Held ClientRule ClientEntry
 abbrev pub ClientSide : Type 0
 ClientSide = End ClientRule ClientEntry ClientEvent (Unit {0}) CallFault
 
+-- an end that has no calls and has heard nothing, by the interface and the limits of what is called
+pub record IsNew (calling : Calling) (end : ClientSide) : Type 0 where
+  pub interface : end.interface.now ≡ calling.interface.now
+  pub limits : end.limits ≡ calling.limits
+  pub calls : end.calls ≡ no_calls (record {}) calling.limits
+  pub unread : end.framer ≡ record { limit = calling.limits.message; octets = [] }
+  pub outgoing : end.outgoing ≡ []
+  pub fault : end.fault ≡ None
+
 -- what is stored for an id
 abbrev pub entry_at : ClientCalls → ℕ → Option ClientEntry
 entry_at calls id = entry_of (finite.get calls.table id)

@@ -6,7 +6,7 @@ ghost use Rattle.giop_calls.specs.ClientTable.{is_closed};
 ghost use Rattle.giop_end.specs.Acts.Form.{IsForm};
 ghost use Rattle.giop_end.specs.Ends.View.{IsActedOn};
 ghost use Rattle.giop_commands.specs.Session.Acts.{outbox_of};
-ghost use Rattle.giop_calling.specs.Call.Calling.{asked_of};
+ghost use Rattle.giop_calling.specs.Call.Calling.{IsNew, asked_of};
 ghost use Rattle.giop_commands.specs.Session.Endings.{Ends};
 ghost use Rattle.giop_calling.specs.Call.Locating.{is_here, locate_of, locate_status, Locates, LocatesEndOver, LocatesOne};
 ghost use Rattle.giop_calling.specs.Call.Printed.{client_text};
@@ -47,21 +47,29 @@ pub fn locate_over<R: Read, W: Write, O: Write>(
     ensures { IfOk result (LocatesEndOver calling.entry
         (traffic R.remaining W.contents O.contents pipes.old pipes.new)) }
 {
+    let mut end = ClientEnd::new(alloc, calling.interface, calling.limits);
+    locate_with(alloc, &mut end, calling, pipes)
+}
+
+// Asks by a new end, and prints its table.
+fn locate_with<R: Read, W: Write, O: Write>(
+    alloc: Global,
+    end: &mut ClientEnd<'_>,
+    calling: Calling<'_>,
+    pipes: &mut Pipes<R, W, O>,
+) -> Result<Ending, Failure>
+    requires { IsNew calling end.old }
+    ensures { IfOk result (LocatesEndOver calling.entry
+        (traffic R.remaining W.contents O.contents pipes.old pipes.new)) }
+{
     let (lines, interface) = (calling.lines, calling.interface);
     let showing = Showing { lines, interface };
-    let mut end = ClientEnd::new(alloc, interface, calling.limits);
-    let refused = locate_all(alloc, &mut end, calling)?;
-    match talk(
-        alloc,
-        &mut end,
-        refused,
-        &mut pipes.reader,
-        &mut pipes.writer,
-    ) {
-        Ok(()) => tell_located(alloc, showing, &end, refused, &mut pipes.out),
+    let refused = locate_all(alloc, end, calling)?;
+    match talk(alloc, end, refused, &mut pipes.reader, &mut pipes.writer) {
+        Ok(()) => tell_located(alloc, showing, end, refused, &mut pipes.out),
         Err(Failure::Memory) => Err(Failure::Memory),
         Err(failure) => {
-            write_session(alloc, showing, &end, None, &mut pipes.out)?;
+            write_session(alloc, showing, end, None, &mut pipes.out)?;
             pipes.out.flush()?;
             Err(failure)
         }

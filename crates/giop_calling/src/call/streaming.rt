@@ -3,6 +3,7 @@
 ghost use Rattle.std.specs.Prelude.{◌≡◌, None, IfOk, OnOk};
 ghost use Rattle.std.specs.Io.KnownBytes.{Appends};
 ghost use Rattle.giop_calls.specs.ClientTable.{is_closed};
+ghost use Rattle.giop_calling.specs.Call.Calling.{IsNew};
 ghost use Rattle.giop_calling.specs.Call.Streaming.{StreamsOver, all_done, left_text, stream_status, unsent_text};
 ghost use Rattle.giop_calling.specs.Call.Endings.{CallsStreamEndOver};
 ghost use Rattle.giop_commands.specs.Session.Endings.{Ends};
@@ -50,15 +51,30 @@ pub fn call_stream<R: Read, W: Write, O: Write>(
     ensures { IfOk result (CallsStreamEndOver calling.entry calls.items
         (traffic R.remaining W.contents O.contents pipes.old pipes.new)) }
 {
+    let mut end = ClientEnd::new(alloc, calling.interface, calling.limits);
+    let mut left = VecDeque::from(calls);
+    stream_with(alloc, &mut end, calling, &mut left, pipes)
+}
+
+// Calls by a new end, and prints each call when it is over.
+fn stream_with<R: Read, W: Write, O: Write>(
+    alloc: Global,
+    end: &mut ClientEnd<'_>,
+    calling: Calling<'_>,
+    left: &mut VecDeque<CallLine>,
+    pipes: &mut Pipes<R, W, O>,
+) -> Result<Ending, Failure>
+    requires { IsNew calling end.old }
+    ensures { IfOk result (CallsStreamEndOver calling.entry left.old.items
+        (traffic R.remaining W.contents O.contents pipes.old pipes.new)) }
+{
     let (lines, interface) = (calling.lines, calling.interface);
     let showing = Showing { lines, interface };
-    let mut end = ClientEnd::new(alloc, interface, calling.limits);
-    let mut left = VecDeque::from(calls);
     let mut well = true;
-    match stream_calls(alloc, &mut end, calling, &mut left, &mut well, pipes) {
-        Ok(refused) => tell_end(alloc, showing, &end, &left, well, refused, &mut pipes.out),
+    match stream_calls(alloc, end, calling, left, &mut well, pipes) {
+        Ok(refused) => tell_end(alloc, showing, end, left, well, refused, &mut pipes.out),
         Err(failure) => {
-            tell_open(alloc, showing, &end, &left, None, &mut pipes.out)?;
+            tell_open(alloc, showing, end, left, None, &mut pipes.out)?;
             Err(failure)
         }
     }

@@ -45,6 +45,15 @@ ServerCalls = Held ServerRule ServerEntry
 abbrev pub ServerSide : Type 0
 ServerSide = End ServerRule ServerEntry ServerEvent (Unit {0}) CallFault
 
+-- an end that has no calls and has heard nothing, by the interface and the limits of what is served
+pub record IsNew (serving : Serving) (end : ServerSide) : Type 0 where
+  pub interface : end.interface.now ≡ serving.interface.now
+  pub limits : end.limits ≡ serving.limits
+  pub calls : end.calls ≡ no_calls (record {}) serving.limits
+  pub unread : end.framer ≡ record { limit = serving.limits.message; octets = [] }
+  pub outgoing : end.outgoing ≡ []
+  pub fault : end.fault ≡ None
+
 -- the pieces that are left of all answers are put out
 abbrev pub AnswersSent : Option SessionFault → Outbox ServerCalls → Option SessionFault
     → Outbox ServerCalls → Type 0

@@ -5,6 +5,7 @@ ghost use Rattle.std.specs.Io.KnownBytes.{Appends};
 ghost use Rattle.giop_calls.specs.ServerTable.{is_closed};
 ghost use Rattle.giop_show.specs.Dump.Text.{ended};
 ghost use Rattle.giop_commands.specs.Session.Endings.{Ends};
+ghost use Rattle.giop_serving.specs.Serve.Serving.{IsNew};
 ghost use Rattle.giop_serving.specs.Serve.Endings.{ServesStreamEndOver};
 ghost use Rattle.giop_commands.specs.Session.Faults.Lines.{last_in};
 ghost use Rattle.giop_serving.specs.Serve.Printed.{connection_in, serve_status};
@@ -45,20 +46,33 @@ pub fn stream_over<R: Read, W: Write, O: Write>(
     ensures { IfOk result (ServesStreamEndOver number serving.entry passed.old passed.new
         (traffic R.remaining W.contents O.contents pipes.old pipes.new)) }
 {
+    let mut end = ServerEnd::new(alloc, serving.interface, serving.limits);
+    stream_with(alloc, number, &mut end, serving, passed, pipes)
+}
+
+// Answers by a new end, and prints each call when it is over.
+fn stream_with<R: Read, W: Write, O: Write>(
+    alloc: Global,
+    number: u32,
+    end: &mut ServerEnd<'_>,
+    serving: Serving<'_>,
+    passed: &mut Passed,
+    pipes: &mut Pipes<R, W, O>,
+) -> Result<Ending, Failure>
+    requires { IsNew serving end.old }
+    ensures { IfOk result (ServesStreamEndOver number serving.entry passed.old passed.new
+        (traffic R.remaining W.contents O.contents pipes.old pipes.new)) }
+{
     let (lines, interface) = (serving.lines, serving.interface);
     let showing = Showing { lines, interface };
     tell_begin(lines, number, &mut pipes.out)?;
-    let mut end = ServerEnd::new(alloc, interface, serving.limits);
-    match stream_answers(alloc, &mut end, serving, passed, pipes) {
-        Ok(refused) => tell_end(
-            alloc,
-            showing,
-            &end,
-            told(refused, end.fault()),
-            &mut pipes.out,
-        ),
+    match stream_answers(alloc, end, serving, passed, pipes) {
+        Ok(refused) => {
+            let ended = told(refused, end.fault());
+            tell_end(alloc, showing, end, ended, &mut pipes.out)
+        }
         Err(failure) => {
-            tell_left(alloc, showing, &end, &mut pipes.out)?;
+            tell_left(alloc, showing, end, &mut pipes.out)?;
             pipes.out.flush()?;
             Err(failure)
         }

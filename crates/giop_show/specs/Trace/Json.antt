@@ -27,7 +27,7 @@ use Rattle.giop_show.specs.declared.trace.call_line.Unanswered.{Unanswered}
 use Rattle.giop_show.specs.declared.trace.call_line.Unanswered.TheVariants.{Oneway, NoAnswer, Untold}
 use Rattle.giop_show.specs.Bodies.{brought_by, request_ins}
 use Rattle.giop_show.specs.Trace.Calls.{answered_of, asked_of, is_call, request_in}
-use Rattle.giop_show.specs.Trace.Lines.{call_text, came_text}
+use Rattle.giop_show.specs.Trace.Lines.{call_text, came_text, told_text}
 
 -- nothing, and an object that says what it is
 abbrev pub null_json : List ℕ
@@ -173,3 +173,8 @@ call_json numbers interface id flow unanswered =
 abbrev pub call_line : LineForm → Interface → Option ℕ → Flow → Unanswered → List ℕ
 call_line (form.Text numbers) = call_text numbers
 call_line (form.Json numbers) = call_json numbers
+
+-- what is told of a call, in a form
+abbrev pub told_line : LineForm → Interface → Told → List ℕ
+told_line (form.Text numbers) = told_text
+told_line (form.Json numbers) = told_json

@@ -1,6 +1,7 @@
 -- What a loop of `trace` does to the calls and to the writer's contents, by the messages that are
 -- not heard yet.
 use Rattle.std.specs.Prelude.{◌≡◌, ℕ, Bool, List, [], ◌∷◌, ◌++◌, Option, Some, None}
+use Rattle.std.specs.FinMap as finite
 use Rattle.std.specs.Io.KnownBytes.{Appends}
 use Rattle.giop_ids.specs.ById.{ById}
 use Rattle.giop_msg.specs.declared.fault.WireFault.{WireFault}
@@ -10,11 +11,12 @@ use Rattle.giop_trace.specs.declared.flow.Flow.{Flow}
 use Rattle.giop_trace.specs.Observing.{heard}
 use Rattle.giop_types.specs.declared.json.interface.Interface.{Interface}
 use Rattle.giop_show.specs.declared.form.LineForm.{LineForm}
+use Rattle.giop_show.specs.declared.trace.Heard.{Heard}
 use Rattle.giop_show.specs.declared.trace.Tracing.{Tracing}
 use Rattle.giop_show.specs.declared.trace.incoming.Brought.{Brought}
 use Rattle.giop_show.specs.declared.trace.incoming.Incoming.{Incoming}
 use Rattle.giop_show.specs.Trace.Incoming.{EndsWith, IsLast, Passes, unheard}
-use Rattle.giop_show.specs.Trace.Text.{AreMessages, Turn, both_turn, client_turn, heard_lines, server_turn}
+use Rattle.giop_show.specs.Trace.Text.{AreMessages, Turn, both_turn, client_turn, heard_lines, is_alone, server_turn}
 
 -- a message of the server that waits
 abbrev pub waiting : Option Brought → List Msg
@@ -50,6 +52,15 @@ pub record HearsBoth (form : LineForm) (interface : Interface) (before after : B
   pub takes : Takes (both_turn form interface before asked answered) old new after
   pub client : EndsWith limit rest client_fault client_unread
   pub server : EndsWith limit left_over server_fault server_unread
+
+-- nothing is read yet: the two directions have one limit, no message waits, and there is no call
+pub record IsBegun (heard : Heard) (tracing : Tracing) : Type 0 where
+  pub limit : tracing.server.framer.limit ≡ tracing.client.framer.limit
+  pub client : tracing.client.framer.octets ≡ []
+  pub server : tracing.server.framer.octets ≡ []
+  pub held : tracing.held ≡ None
+  pub calls : tracing.observer.calls.entries ≡ finite.empty
+  pub alone : tracing.observer.alone ≡ is_alone heard
 
 -- what stays of the state of a run: the form, whether the client is heard alone, and the limits
 pub record SameForm (old new : Tracing) : Type 0 where

@@ -3,8 +3,8 @@
 ghost use Rattle.std.specs.Prelude.{◌≡◌, IfOk, OnOk, option_copied};
 ghost use Rattle.std.specs.Io.KnownBytes.{Appends};
 ghost use Rattle.giop_show.specs.Dump.Text.{ended};
-ghost use Rattle.giop_show.specs.Trace.Calls.{answered_of};
-ghost use Rattle.giop_show.specs.Trace.Json.{call_line};
+ghost use Rattle.giop_show.specs.Trace.Calls.{answered_of, asked_of, request_in};
+ghost use Rattle.giop_show.specs.Trace.Json.{call_line, told_line};
 ghost use Rattle.giop_show.specs.Trace.Lines.{open_text, told_text};
 
 use crate::failure::Failure;
@@ -72,6 +72,13 @@ pub fn write_call<W: Write>(
     write_any(alloc, interface, form, id, flow, unanswered, writer)
 }
 
+// What was asked by a call, and what its answer is, if it has one.
+#[derive(Drop)]
+struct Parts {
+    asked: Asked,
+    answered: Option<Answered>,
+}
+
 // Writes the line of any call.
 #[inline(never)]
 #[tactic(auto, unfolding(crate::specs::Trace::Lines::call_text, crate::specs::Trace::Json::call_json))]
@@ -87,20 +94,42 @@ fn write_any<W: Write>(
     ensures { OnOk result (Appends (W.contents writer.old) (W.contents writer.new)
         (ended (call_line form interface.now id flow.now unanswered))) }
 {
-    let asked = asked_of(alloc, interface, &flow.asked)?;
-    let answered = answered_of(alloc, interface, request_in(&asked), &flow.answer)?;
+    let parts = parts_of(alloc, interface, flow)?;
     let told = Told {
         numbers: form.numbers(),
         id,
         flow,
-        asked: &asked,
-        answered: &answered,
+        asked: &parts.asked,
+        answered: &parts.answered,
         unanswered,
     };
+    write_told(alloc, interface, form, &told, writer)
+}
+
+fn write_told<W: Write>(
+    alloc: Global,
+    interface: &Interface,
+    form: LineForm,
+    told: &Told<'_>,
+    writer: &mut W,
+) -> Result<(), Failure>
+    ensures { OnOk result (Appends (W.contents writer.old) (W.contents writer.new)
+        (ended (told_line form interface.now told.now))) }
+{
     match form {
-        LineForm::Text(_) => write_parts(alloc, interface, &told, writer),
-        LineForm::Json(_) => write_call_json(alloc, interface, &told, writer),
+        LineForm::Text(_) => write_parts(alloc, interface, told, writer),
+        LineForm::Json(_) => write_call_json(alloc, interface, told, writer),
     }
+}
+
+fn parts_of(alloc: Global, interface: &Interface, flow: &Flow) -> Result<Parts, Failure>
+    ensures asked { IfOk result (λ parts. parts.asked ≡ asked_of interface.now flow.now.asked) }
+    ensures answered { IfOk result (λ parts. parts.answered
+        ≡ answered_of interface.now (request_in parts.asked) flow.now.answer) }
+{
+    let asked = asked_of(alloc, interface, &flow.asked)?;
+    let answered = answered_of(alloc, interface, request_in(&asked), &flow.answer)?;
+    Ok(Parts { asked, answered })
 }
 
 // What the answer of a call is, if it has one.

@@ -2,6 +2,7 @@
 //! memory is taken for the open calls and for what one read gave. Its meaning is
 //! specs/Call/Feeding.antt: change both.
 ghost use Rattle.std.specs.Prelude.{◌≡◌, ◌&&◌, None, IfOk, OnOk};
+ghost use Rattle.giop_calling.specs.Call.Calling.{IsNew};
 ghost use Rattle.giop_calling.specs.Call.Feeding.{FedEndOver, FedOver, Feeds, feeding};
 ghost use Rattle.giop_calling.specs.Call.Lines.{feed_at};
 ghost use Rattle.giop_commands.specs.Session.Traffic.{traffic};
@@ -41,19 +42,34 @@ pub fn call_fed<S: Read + Drop, R: Read, W: Write, O: Write>(
     ensures { IfOk result (FedEndOver calling.entry (feeding S.remaining source.old source.new)
         (traffic R.remaining W.contents O.contents pipes.old pipes.new)) }
 {
+    let mut end = ClientEnd::new(alloc, calling.interface, calling.limits);
+    fed_with(alloc, &mut end, calling, source, pipes)
+}
+
+// Calls by a new end, and prints each call when it is over.
+fn fed_with<S: Read + Drop, R: Read, W: Write, O: Write>(
+    alloc: Global,
+    end: &mut ClientEnd<'_>,
+    calling: Calling<'_>,
+    source: &mut LineFeed<S>,
+    pipes: &mut Pipes<R, W, O>,
+) -> Result<Ending, Failure>
+    requires { IsNew calling end.old }
+    ensures { IfOk result (FedEndOver calling.entry (feeding S.remaining source.old source.new)
+        (traffic R.remaining W.contents O.contents pipes.old pipes.new)) }
+{
     let (lines, interface) = (calling.lines, calling.interface);
     let showing = Showing { lines, interface };
-    let mut end = ClientEnd::new(alloc, interface, calling.limits);
     let mut well = true;
-    match stream_fed(alloc, &mut end, calling, source, &mut well, pipes) {
+    match stream_fed(alloc, end, calling, source, &mut well, pipes) {
         Ok(refused) => {
             let all = ended_well(well, &source.lines);
             let left = &source.lines.calls;
-            tell_end(alloc, showing, &end, left, all, refused, &mut pipes.out)
+            tell_end(alloc, showing, end, left, all, refused, &mut pipes.out)
         }
         Err(failure) => {
             let left = &source.lines.calls;
-            tell_open(alloc, showing, &end, left, None, &mut pipes.out)?;
+            tell_open(alloc, showing, end, left, None, &mut pipes.out)?;
             Err(failure)
         }
     }
