@@ -1,6 +1,5 @@
 //! The words of `call`. A change here is one in docs/giopctl.md and tests/program too.
-ghost use Rattle.giop_end.specs.Acts.Form.{IsForm};
-ghost use Rattle.std.specs.Prelude.{◌+◌, ◌≤◌, ◌^◌};
+ghost use Rattle.std.specs.Prelude.{◌+◌, ◌≤◌};
 ghost use Rattle.std.proofs.Props.{props};
 ghost use Rattle.giop_words.specs.Inputs.{input, inputs_among, target_input};
 ghost use Rattle.giop_words.specs.Timeout.{IsTimeout};
@@ -8,17 +7,15 @@ ghost use Rattle.giop_words.specs.Timeout.{IsTimeout};
 mod help;
 
 use crate::call::help::CALL_HELP;
-use crate::words::file::{
-    FileWord, Files, input, inputs_among, interface_option, once, target_input,
-};
-use crate::words::form::{lines_of, with_lines};
-use crate::words::limit::limits_of;
+use crate::words::file::{FileWord, Files, INTERFACE, input, inputs_among, once, target_input};
+use crate::words::form::{JSON, JSON_NUMBERS, lines_of};
+use crate::words::limit::{CALLS_LIMIT, GATHERED_LIMIT, LimitWords, MESSAGE_LIMIT, limits_of};
+use crate::words::row::{CommandRow, Needed, Place, Row, Takes};
 use crate::words::session::{
-    Telling, follow_option, message_form_of, stream_option, target_option, telling_of, timeout_of,
-    timeout_option, with_sending,
+    LITTLE, PIECE, STREAM, SendingWords, TARGET, TIMEOUT, Telling, sending_of, telling_of,
+    timeout_of,
 };
-use clap::{Arg, ArgMatches, Command};
-use giop_end::{Form, Limits};
+use clap::ArgMatches;
 use giop_show::LineForm;
 use std::alloc::{AllocError, Global};
 
@@ -44,47 +41,63 @@ pub struct CallWords<'a> {
     /// For how many seconds nothing may come or go, 1 to 86,400; any number where it is `None`.
     pub timeout: Option<u32>,
     /// How Requests are sent.
-    pub form: Form,
+    pub sending: SendingWords,
     /// What the end holds at most.
-    pub limits: Limits,
-    pub ghost sent: { IsForm form },
-    pub ghost bounded: { limits.gathered ≤ 2 ^ 62 },
+    pub limits: LimitWords,
     pub ghost timed: { IsTimeout timeout } by { Prim.hlevel props },
     pub ghost once: { inputs_among interfaces.items
         + (input file.now + target_input target.now) ≤ 1 },
 }
 
+// The option by which forwards are followed.
+const FOLLOW: Row = Row {
+    name: "follow",
+    place: Place::Flag,
+    needed: Needed::No,
+    takes: Takes::Text,
+    help: "A call that is forwarded is made again there, up to five times",
+};
+
+// The file's argument.
+const FILE: Row = Row {
+    name: "FILE",
+    place: Place::Argument,
+    needed: Needed::Yes,
+    takes: Takes::Text,
+    help: "The file of the calls, in JSON, or - for the standard input; or an operation's name",
+};
+
+// The arguments of an operation's ins.
+const VALUE: Row = Row {
+    name: "VALUE",
+    place: Place::Arguments,
+    needed: Needed::No,
+    takes: Takes::Text,
+    help: "The ins of that operation, each a JSON value",
+};
+
 /// The command `call`.
-pub(crate) fn call_command<'a>(alloc: Global) -> Result<Command<'a>, AllocError> {
-    let command = Command::new(alloc, "call")
-        .about("Calls operations of an object, and shows the replies")
-        .after_help(CALL_HELP)
-        .arg(target_option(alloc))?
-        .arg(interface_option(alloc))?;
-    let command = with_progress(alloc, with_lines(alloc, command)?)?;
-    with_calls(alloc, with_sending(alloc, command)?)
-}
-
-// A command with the options of when calls are told, whether they are followed, and for how long.
-fn with_progress<'a>(alloc: Global, command: Command<'a>) -> Result<Command<'a>, AllocError> {
-    let help = "A call that is forwarded is made again there, up to five times";
-    command
-        .arg(stream_option(alloc))?
-        .arg(follow_option(alloc, help))?
-        .arg(timeout_option(alloc))
-}
-
-// A command with the arguments of what is called.
-fn with_calls<'a>(alloc: Global, command: Command<'a>) -> Result<Command<'a>, AllocError> {
-    let file = Arg::new(alloc, "FILE").required(true).help(
-        "The file of the calls, in JSON, or - for the standard input; or an operation's name",
-    );
-    let values = Arg::new(alloc, "VALUE")
-        .num_args(1..)
-        .allow_negative_numbers(true)
-        .help("The ins of that operation, each a JSON value");
-    command.arg(file)?.arg(values)
-}
+pub(crate) const CALL: CommandRow = CommandRow {
+    name: "call",
+    about: "Calls operations of an object, and shows the replies",
+    help: CALL_HELP,
+    rows: &[
+        TARGET,
+        INTERFACE,
+        JSON,
+        JSON_NUMBERS,
+        STREAM,
+        FOLLOW,
+        TIMEOUT,
+        PIECE,
+        LITTLE,
+        MESSAGE_LIMIT,
+        CALLS_LIMIT,
+        GATHERED_LIMIT,
+        FILE,
+        VALUE,
+    ],
+};
 
 /// What `call` is asked for with these files and values, or what is wrong with a word.
 pub(crate) fn call_words<'a>(
@@ -93,7 +106,7 @@ pub(crate) fn call_words<'a>(
     values: Vec<&'a str>,
 ) -> Result<CallWords<'a>, &'static str> {
     let interfaces = interfaces?;
-    let form = message_form_of(matches)?;
+    let sending = sending_of(matches)?;
     let limits = limits_of(matches)?;
     let (Some(target), Some(file)) = (matches.get_str("target"), matches.get_str("FILE")) else {
         return Err("--target and FILE are wanted");
@@ -115,7 +128,7 @@ pub(crate) fn call_words<'a>(
         follow,
         lines: lines_of(matches),
         timeout: timeout_of(matches)?,
-        form,
+        sending,
         limits,
     })
 }

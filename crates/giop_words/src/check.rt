@@ -1,17 +1,16 @@
 //! The words of `check`. A change here is one in docs/giopctl.md and tests/program too.
-ghost use Rattle.std.specs.Prelude.{◌+◌, ◌≤◌, ◌^◌};
+ghost use Rattle.std.specs.Prelude.{◌+◌, ◌≤◌};
 ghost use Rattle.giop_words.specs.Inputs.{input, inputs_among};
 
 mod help;
 
 use crate::check::help::CHECK_HELP;
-use crate::words::file::{FileWord, Files, input, inputs_among, interface_option, once};
-use crate::words::form::{lines_of, with_lines};
-use crate::words::limit::{limits_of, with_limits};
-use clap::{Arg, ArgAction, ArgMatches, Command};
-use giop_end::Limits;
+use crate::words::file::{FileWord, Files, INTERFACE, input, inputs_among, once};
+use crate::words::form::{JSON, JSON_NUMBERS, lines_of};
+use crate::words::limit::{CALLS_LIMIT, GATHERED_LIMIT, LimitWords, MESSAGE_LIMIT, limits_of};
+use crate::words::row::{CommandRow, Needed, Place, Row, Takes};
+use clap::ArgMatches;
 use giop_show::LineForm;
-use std::alloc::{AllocError, Global};
 
 /// What `check` is asked for.
 #[derive(Debug, Drop)]
@@ -21,31 +20,48 @@ pub struct CheckWords<'a> {
     /// The file's name, or `-` for the standard input.
     pub file: &'a str,
     /// What the end that hears it holds at most.
-    pub limits: Limits,
+    pub limits: LimitWords,
     /// Whether what can't be decoded is refused.
     pub strict: bool,
     /// The form of its lines.
     pub form: LineForm,
-    pub ghost bounded: { limits.gathered ≤ 2 ^ 62 },
     pub ghost once: { inputs_among interfaces.items + input file.now ≤ 1 },
 }
 
+// The option by which more is refused.
+const STRICT: Row = Row {
+    name: "strict",
+    place: Place::Flag,
+    needed: Needed::No,
+    takes: Takes::Text,
+    help: "What can't be decoded is refused: status 1",
+};
+
+// The file's argument.
+const FILE: Row = Row {
+    name: "FILE",
+    place: Place::Argument,
+    needed: Needed::Yes,
+    takes: Takes::Text,
+    help: "A file of what a client sent, or - for the standard input",
+};
+
 /// The command `check`.
-pub(crate) fn check_command<'a>(alloc: Global) -> Result<Command<'a>, AllocError> {
-    let strict = Arg::new(alloc, "strict")
-        .long("strict")
-        .action(ArgAction::SetTrue)
-        .help("What can't be decoded is refused: status 1");
-    let file = Arg::new(alloc, "FILE").required(true).help(
-        "A file of what a client sent, or - for the standard input",
-    );
-    let command = Command::new(alloc, "check")
-        .about("Shows what becomes of the calls of a file")
-        .after_help(CHECK_HELP)
-        .arg(interface_option(alloc))?;
-    let command = with_lines(alloc, command)?.arg(strict)?;
-    with_limits(alloc, command)?.arg(file)
-}
+pub(crate) const CHECK: CommandRow = CommandRow {
+    name: "check",
+    about: "Shows what becomes of the calls of a file",
+    help: CHECK_HELP,
+    rows: &[
+        INTERFACE,
+        JSON,
+        JSON_NUMBERS,
+        STRICT,
+        MESSAGE_LIMIT,
+        CALLS_LIMIT,
+        GATHERED_LIMIT,
+        FILE,
+    ],
+};
 
 /// What `check` is asked for with these files, or what is wrong with a word.
 pub(crate) fn check_words<'a>(

@@ -7,8 +7,9 @@ mod help;
 
 use crate::convert::help::{CONVERT_HELP, CORBALOC_HELP, DECODE_HELP, ENCODE_HELP, IOR_HELP};
 use crate::words::file::{input, once};
-use crate::words::form::{json_numbers_option, json_option, numbers_of, plain_lines_of};
-use clap::{Arg, ArgAction, ArgMatches, Command};
+use crate::words::form::{JSON, JSON_NUMBERS, numbers_of, plain_lines_of};
+use crate::words::row::{CommandRow, Needed, Place, Row, Takes, command_of};
+use clap::{ArgMatches, Command};
 use giop_cdr::Order;
 use giop_show::{LineForm, Way};
 use std::alloc::{AllocError, Global};
@@ -41,89 +42,72 @@ pub(crate) struct ConvertWords<'a> {
     pub ghost once: { kind_inputs kind + input file.now ≤ 1 },
 }
 
+// The file's argument.
+const FILE: Row = Row {
+    name: "FILE",
+    place: Place::Argument,
+    needed: Needed::Yes,
+    takes: Takes::Text,
+    help: "The file to convert, or - for the standard input",
+};
+
+// The option of the file of a value's description.
+const DESC: Row = Row {
+    name: "desc",
+    place: Place::Option("FILE"),
+    needed: Needed::Yes,
+    takes: Takes::Text,
+    help: "The file of the value's description, in JSON",
+};
+
+// The option of the byte order of a value.
+const LITTLE: Row = Row {
+    name: "little",
+    place: Place::Flag,
+    needed: Needed::No,
+    takes: Takes::Text,
+    help: "The octets are little-endian, not big-endian",
+};
+
+// The kinds: for references, which may be told as JSON, and for values.
+const KINDS: &[CommandRow] = &[
+    CommandRow {
+        name: "ior",
+        about: "Shows the text of a reference",
+        help: IOR_HELP,
+        rows: &[FILE, JSON],
+    },
+    CommandRow {
+        name: "corbaloc",
+        about: "Writes a corbaloc in full, and its reference",
+        help: CORBALOC_HELP,
+        rows: &[FILE, JSON],
+    },
+    CommandRow {
+        name: "encode",
+        about: "Writes the octets of a value in JSON",
+        help: ENCODE_HELP,
+        rows: &[FILE, DESC, LITTLE],
+    },
+    CommandRow {
+        name: "decode",
+        about: "Writes octets as a value in JSON",
+        help: DECODE_HELP,
+        rows: &[FILE, DESC, LITTLE, JSON_NUMBERS],
+    },
+];
+
 /// The command `convert`.
 pub(crate) fn convert_command<'a>(alloc: Global) -> Result<Command<'a>, AllocError> {
-    let command = Command::new(alloc, "convert")
+    let mut command = Command::new(alloc, "convert")
         .about("Writes what a file holds in another form")
         .subcommand_required(true)
         .arg_required_else_help(true)
         .after_help(CONVERT_HELP);
-    with_values(alloc, with_references(alloc, command)?)
-}
-
-// A command with the kinds for references.
-fn with_references<'a>(alloc: Global, command: Command<'a>) -> Result<Command<'a>, AllocError> {
-    command
-        .subcommand(reference_kind(alloc, "ior", "Shows the text of a reference", IOR_HELP)?)?
-        .subcommand(reference_kind(
-            alloc,
-            "corbaloc",
-            "Writes a corbaloc in full, and its reference",
-            CORBALOC_HELP,
-        )?)
-}
-
-// A command with the kinds for values.
-fn with_values<'a>(alloc: Global, command: Command<'a>) -> Result<Command<'a>, AllocError> {
-    let encode = value_kind(
-        alloc,
-        "encode",
-        "Writes the octets of a value in JSON",
-        ENCODE_HELP,
-    )?;
-    let decode = value_kind(
-        alloc,
-        "decode",
-        "Writes octets as a value in JSON",
-        DECODE_HELP,
-    )?
-    .arg(json_numbers_option(alloc))?;
-    command.subcommand(encode)?.subcommand(decode)
-}
-
-// A kind of `convert` for a reference, which may be told as JSON.
-fn reference_kind<'a>(
-    alloc: Global,
-    name: &'a str,
-    about: &'a str,
-    help: &'a str,
-) -> Result<Command<'a>, AllocError> {
-    kind(alloc, name, about, help)?.arg(json_option(alloc))
-}
-
-// A kind of `convert` for a value: it takes the value's description too, and may take a byte order.
-fn value_kind<'a>(
-    alloc: Global,
-    name: &'a str,
-    about: &'a str,
-    help: &'a str,
-) -> Result<Command<'a>, AllocError> {
-    let desc = Arg::new(alloc, "desc")
-        .long("desc")
-        .required(true)
-        .value_name("FILE")
-        .help("The file of the value's description, in JSON");
-    let little = Arg::new(alloc, "little")
-        .long("little")
-        .action(ArgAction::SetTrue)
-        .help("The octets are little-endian, not big-endian");
-    kind(alloc, name, about, help)?.arg(desc)?.arg(little)
-}
-
-// A kind of `convert`, by its name, with what it does and how.
-fn kind<'a>(
-    alloc: Global,
-    name: &'a str,
-    about: &'a str,
-    help: &'a str,
-) -> Result<Command<'a>, AllocError> {
-    let file = Arg::new(alloc, "FILE")
-        .required(true)
-        .help("The file to convert, or - for the standard input");
-    Command::new(alloc, name)
-        .about(about)
-        .after_help(help)
-        .arg(file)
+    for kind in KINDS {
+        command = command.subcommand(command_of(alloc, *kind)?)?;
+    }
+    Ok(command)
 }
 
 /// What `convert` is asked for, or what is wrong with a word.

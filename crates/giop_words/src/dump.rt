@@ -7,13 +7,11 @@ mod help;
 
 use crate::dump::help::DUMP_HELP;
 use crate::words::file::{input, input_of, once};
-use crate::words::form::{lines_of, with_lines};
-use crate::words::limit::{
-    gathered_limit_of, gathered_limit_option, message_limit_of, message_limit_option,
-};
-use clap::{Arg, ArgMatches, Command};
+use crate::words::form::{JSON, JSON_NUMBERS, lines_of};
+use crate::words::limit::{GATHERED_LIMIT, MESSAGE_LIMIT, gathered_limit_of, message_limit_of};
+use crate::words::row::{CommandRow, Needed, Place, Row, Takes};
+use clap::ArgMatches;
 use giop_show::LineForm;
-use std::alloc::{AllocError, Global};
 
 /// What `dump` is asked for.
 #[derive(Clone, Copy, Debug)]
@@ -33,24 +31,38 @@ pub struct DumpWords<'a> {
     pub ghost once: { option_map_or (λ name. input name.now) interface 0 + input file.now ≤ 1 },
 }
 
+// The option of an interface.
+const INTERFACE: Row = Row {
+    name: "interface",
+    place: Place::Option("FILE"),
+    needed: Needed::No,
+    takes: Takes::Text,
+    help: "The file of an interface, in JSON, by which bodies of Requests are shown",
+};
+
+// The file's argument.
+const FILE: Row = Row {
+    name: "FILE",
+    place: Place::Argument,
+    needed: Needed::Yes,
+    takes: Takes::Text,
+    help: "A file of GIOP messages, or - for the standard input",
+};
+
 /// The command `dump`.
-pub(crate) fn dump_command<'a>(alloc: Global) -> Result<Command<'a>, AllocError> {
-    let file = Arg::new(alloc, "FILE")
-        .required(true)
-        .help("A file of GIOP messages, or - for the standard input");
-    let interface = Arg::new(alloc, "interface")
-        .long("interface")
-        .value_name("FILE")
-        .help("The file of an interface, in JSON, by which bodies of Requests are shown");
-    let command = Command::new(alloc, "dump")
-        .about("Shows each message of a file")
-        .after_help(DUMP_HELP)
-        .arg(interface)?;
-    with_lines(alloc, command)?
-        .arg(message_limit_option(alloc))?
-        .arg(gathered_limit_option(alloc))?
-        .arg(file)
-}
+pub(crate) const DUMP: CommandRow = CommandRow {
+    name: "dump",
+    about: "Shows each message of a file",
+    help: DUMP_HELP,
+    rows: &[
+        INTERFACE,
+        JSON,
+        JSON_NUMBERS,
+        MESSAGE_LIMIT,
+        GATHERED_LIMIT,
+        FILE,
+    ],
+};
 
 /// What `dump` is asked for, or what is wrong with a word.
 pub(crate) fn dump_words<'a>(

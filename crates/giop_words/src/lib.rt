@@ -22,5 +22,6 @@ pub use serve::{KeyWord, ServeWords};
 pub use task::{Task, task_of};
 pub use trace::TraceWords;
 pub use words::file::FileWord;
+pub use words::limit::LimitWords;
 pub use words::object::ObjectWords;
-pub use words::session::Telling;
+pub use words::session::{SendingWords, Telling};

@@ -3,12 +3,14 @@
 mod help;
 
 use crate::ping::help::PING_HELP;
-use crate::words::object::object_command;
-use clap::Command;
-use std::alloc::{AllocError, Global};
+use crate::words::form::JSON;
+use crate::words::row::CommandRow;
+use crate::words::session::{LITTLE, TARGET, TIMEOUT};
 
 /// The command `ping`.
-pub(crate) fn ping_command<'a>(alloc: Global) -> Result<Command<'a>, AllocError> {
-    let about = "Asks an object whether it is there, and tells how long that took";
-    object_command(alloc, "ping", about, PING_HELP)
-}
+pub(crate) const PING: CommandRow = CommandRow {
+    name: "ping",
+    about: "Asks an object whether it is there, and tells how long that took",
+    help: PING_HELP,
+    rows: &[TARGET, TIMEOUT, JSON, LITTLE],
+};

@@ -1,6 +1,5 @@
 //! The words of `serve`. A change here is one in docs/giopctl.md and tests/program too.
-ghost use Rattle.giop_end.specs.Acts.Form.{IsForm};
-ghost use Rattle.std.specs.Prelude.{◌≡◌, ◌+◌, ◌≤◌, ◌^◌, IfOk, IfSome, true};
+ghost use Rattle.std.specs.Prelude.{◌≡◌, ◌+◌, ◌≤◌, IfOk, IfSome, true};
 ghost use Rattle.std.specs.Char.{is_ascii_hexdigit};
 ghost use Rattle.std.specs.List.{list_all};
 ghost use Rattle.giop_words.specs.Inputs.{inputs_among};
@@ -9,14 +8,13 @@ ghost use Rattle.giop_words.specs.Key.{is_hexadecimal, is_key};
 mod help;
 
 use crate::serve::help::SERVE_HELP;
-use crate::words::file::{FileWord, Files, answers_option, inputs_among, interface_option, once};
-use crate::words::form::{lines_of, with_lines};
-use crate::words::limit::limits_of;
-use crate::words::number::{number_option, short_number_of};
-use crate::words::session::{Telling, message_form_of, stream_option, telling_of, with_sending};
-use clap::builder::ValueParser;
-use clap::{Arg, ArgGroup, ArgMatches, Command};
-use giop_end::{Form, Limits};
+use crate::words::file::{ANSWERS, FileWord, Files, INTERFACE, inputs_among, once};
+use crate::words::form::{JSON, JSON_NUMBERS, lines_of};
+use crate::words::limit::{CALLS_LIMIT, GATHERED_LIMIT, LimitWords, MESSAGE_LIMIT, limits_of};
+use crate::words::number::short_number_of;
+use crate::words::row::{CommandRow, Needed, Place, Row, Takes, command_of};
+use crate::words::session::{LITTLE, PIECE, STREAM, SendingWords, Telling, sending_of, telling_of};
+use clap::{ArgGroup, ArgMatches, Command};
 use giop_show::LineForm;
 use std::alloc::{AllocError, Global};
 
@@ -51,84 +49,100 @@ pub struct ServeWords<'a> {
     /// The form of their lines.
     pub lines: LineForm,
     /// How Replies are sent.
-    pub form: Form,
+    pub sending: SendingWords,
     /// What the end of each connection holds at most.
-    pub limits: Limits,
-    pub ghost sent: { IsForm form },
-    pub ghost bounded: { limits.gathered ≤ 2 ^ 62 },
+    pub limits: LimitWords,
     pub ghost keyed: { is_key key ≡ true },
     pub ghost served: { (1 ≤ connections) × (connections ≤ 65535) },
     pub ghost once: { inputs_among interfaces.items + inputs_among answers.items ≤ 1 },
 }
 
+// The option of the port.
+const PORT: Row = Row {
+    name: "port",
+    place: Place::Option("N"),
+    needed: Needed::Yes,
+    takes: Takes::Number(0, 65_535),
+    help: "The port that is listened at, on 127.0.0.1; 0 for one that is free",
+};
+
+// The option of the object's key in digits.
+const KEY: Row = Row {
+    name: "key",
+    place: Place::Option("HEX"),
+    needed: Needed::No,
+    takes: Takes::Text,
+    help: "The object key, in hexadecimal digits",
+};
+
+// The option of the object's key as a text.
+const KEY_TEXT: Row = Row {
+    name: "key-text",
+    place: Place::Option("TEXT"),
+    needed: Needed::No,
+    takes: Takes::Text,
+    help: "The object key, as a text, in place of --key",
+};
+
+// The option of the file of the object's reference.
+const IOR_FILE: Row = Row {
+    name: "ior-file",
+    place: Place::Option("FILE"),
+    needed: Needed::No,
+    takes: Takes::Text,
+    help: "The file that the object's reference is written to",
+};
+
+// The option of the object's type.
+const TYPE_ID: Row = Row {
+    name: "type-id",
+    place: Place::Option("ID"),
+    needed: Needed::No,
+    takes: Takes::Text,
+    help: "The object's type id, in place of the id that the interface has",
+};
+
+// The option of how many connections are served.
+const CONNECTIONS: Row = Row {
+    name: "connections",
+    place: Place::Option("N"),
+    needed: Needed::Default("1"),
+    takes: Takes::Number(1, 65_535),
+    help: "How many connections are served, one after the other",
+};
+
+/// The command `serve`, but that one of both keys is wanted.
+const SERVE: CommandRow = CommandRow {
+    name: "serve",
+    about: "Answers the calls of one object",
+    help: SERVE_HELP,
+    rows: &[
+        PORT,
+        INTERFACE,
+        ANSWERS,
+        KEY,
+        KEY_TEXT,
+        IOR_FILE,
+        TYPE_ID,
+        CONNECTIONS,
+        JSON,
+        JSON_NUMBERS,
+        STREAM,
+        PIECE,
+        LITTLE,
+        MESSAGE_LIMIT,
+        CALLS_LIMIT,
+        GATHERED_LIMIT,
+    ],
+};
+
 /// The command `serve`.
 pub(crate) fn serve_command<'a>(alloc: Global) -> Result<Command<'a>, AllocError> {
-    let port = number_option(
-        alloc,
-        "port",
-        "The port that is listened at, on 127.0.0.1; 0 for one that is free",
-    )
-    .required(true)
-    .value_parser(ValueParser::Unsigned(0, 65_535));
-    let connections = number_option(
-        alloc,
-        "connections",
-        "How many connections are served, one after the other",
-    )
-    .default_value("1")
-    .value_parser(ValueParser::Unsigned(1, 65_535));
-    let command = Command::new(alloc, "serve")
-        .about("Answers the calls of one object")
-        .after_help(SERVE_HELP)
-        .arg(port)?
-        .arg(interface_option(alloc))?
-        .arg(answers_option(alloc))?;
-    let command = with_reference(alloc, with_key(alloc, command)?)?.arg(connections)?;
-    let command = with_lines(alloc, command)?.arg(stream_option(alloc))?;
-    with_sending(alloc, command)
-}
-
-// A command with the options of the object's key.
-fn with_key<'a>(alloc: Global, command: Command<'a>) -> Result<Command<'a>, AllocError> {
-    command
-        .arg(key_option(alloc))?
-        .arg(key_text_option(alloc))?
-        .group(key_group(alloc)?)
-}
-
-// A command with the options of the object's reference.
-fn with_reference<'a>(alloc: Global, command: Command<'a>) -> Result<Command<'a>, AllocError> {
-    let ior_file = Arg::new(alloc, "ior-file")
-        .long("ior-file")
-        .value_name("FILE")
-        .help("The file that the object's reference is written to");
-    let type_id = Arg::new(alloc, "type-id")
-        .long("type-id")
-        .value_name("ID")
-        .help("The object's type id, in place of the id that the interface has");
-    command.arg(ior_file)?.arg(type_id)
-}
-
-fn key_option<'a>(alloc: Global) -> Arg<'a> {
-    Arg::new(alloc, "key")
-        .long("key")
-        .value_name("HEX")
-        .help("The object key, in hexadecimal digits")
-}
-
-fn key_text_option<'a>(alloc: Global) -> Arg<'a> {
-    Arg::new(alloc, "key-text")
-        .long("key-text")
-        .value_name("TEXT")
-        .help("The object key, as a text, in place of --key")
-}
-
-// One of both is wanted, and no more.
-fn key_group<'a>(alloc: Global) -> Result<ArgGroup<'a>, AllocError> {
-    ArgGroup::new(alloc, "one-key")
+    let one_key = ArgGroup::new(alloc, "one-key")
         .required(true)
         .arg("key")?
-        .arg("key-text")
+        .arg("key-text")?;
+    command_of(alloc, SERVE)?.group(one_key)
 }
 
 /// What `serve` is asked for with these files, or what is wrong with a word.
@@ -139,7 +153,7 @@ pub(crate) fn serve_words<'a>(
 ) -> Result<ServeWords<'a>, &'static str> {
     let interfaces = interfaces?;
     let answers = answers?;
-    let form = message_form_of(matches)?;
+    let sending = sending_of(matches)?;
     let limits = limits_of(matches)?;
     let Some(port) = port_of(matches) else {
         return Err("--port is a number from 0 to 65535, in decimal digits");
@@ -161,7 +175,7 @@ pub(crate) fn serve_words<'a>(
         connections,
         telling: telling_of(matches),
         lines: lines_of(matches),
-        form,
+        sending,
         limits,
     })
 }

@@ -2,16 +2,17 @@
 ghost use Rattle.std.specs.Prelude.{IfOk, IfSome};
 ghost use Rattle.giop_words.specs.Task.{ReadsOnce};
 
-use crate::call::{CallWords, call_command, call_words, values_of};
-use crate::check::{CheckWords, check_command, check_words};
+use crate::call::{CALL, CallWords, call_words, values_of};
+use crate::check::{CHECK, CheckWords, check_words};
 use crate::convert::{ConvertKind, convert_command, convert_words};
-use crate::dump::{DumpWords, dump_command, dump_words};
-use crate::locate::{locate_command, locate_words};
-use crate::ping::ping_command;
+use crate::dump::{DUMP, DumpWords, dump_words};
+use crate::locate::{LOCATE, locate_words};
+use crate::ping::PING;
 use crate::serve::{ServeWords, serve_command, serve_words};
-use crate::trace::{TraceWords, trace_command, trace_words};
+use crate::trace::{TRACE, TraceWords, trace_words};
 use crate::words::file::file_words;
 use crate::words::object::{ObjectWords, object_words};
+use crate::words::row::{CommandRow, command_of};
 use clap::error::ErrorKind;
 use clap::{ArgMatches, Command, Error};
 use std::alloc::{AllocError, Global};
@@ -207,26 +208,21 @@ fn giopctl<'a>(alloc: Global) -> Result<Command<'a>, AllocError> {
         .subcommand_required(true)
         .arg_required_else_help(true)
         .after_help(STATUSES);
-    with_object_commands(alloc, with_file_commands(alloc, command)?)
+    let command = with_each(alloc, command, &[DUMP, CHECK, TRACE])?.subcommand(convert_command(
+        alloc,
+    )?)?;
+    with_each(alloc, command, &[CALL, LOCATE, PING])?.subcommand(serve_command(alloc)?)
 }
 
-// A command with those that read files.
-fn with_file_commands<'a>(alloc: Global, command: Command<'a>) -> Result<Command<'a>, AllocError> {
-    command
-        .subcommand(dump_command(alloc)?)?
-        .subcommand(check_command(alloc)?)?
-        .subcommand(trace_command(alloc)?)?
-        .subcommand(convert_command(alloc)?)
-}
-
-// A command with those that call objects, or serve them.
-fn with_object_commands<'a>(
+// A command with those of these rows.
+fn with_each<'a>(
     alloc: Global,
     command: Command<'a>,
+    rows: &[CommandRow],
 ) -> Result<Command<'a>, AllocError> {
-    command
-        .subcommand(call_command(alloc)?)?
-        .subcommand(locate_command(alloc)?)?
-        .subcommand(ping_command(alloc)?)?
-        .subcommand(serve_command(alloc)?)
+    let mut all = command;
+    for row in rows {
+        all = all.subcommand(command_of(alloc, *row)?)?;
+    }
+    Ok(all)
 }

@@ -6,12 +6,12 @@ ghost use Rattle.giop_words.specs.Inputs.{input, inputs_among};
 mod help;
 
 use crate::trace::help::TRACE_HELP;
-use crate::words::file::{FileWord, Files, input, input_of, inputs_among, interface_option, once};
-use crate::words::form::{lines_of, with_lines};
-use crate::words::limit::{message_limit_of, message_limit_option};
-use clap::{Arg, ArgMatches, Command};
+use crate::words::file::{FileWord, Files, INTERFACE, input, input_of, inputs_among, once};
+use crate::words::form::{JSON, JSON_NUMBERS, lines_of};
+use crate::words::limit::{MESSAGE_LIMIT, message_limit_of};
+use crate::words::row::{CommandRow, Needed, Place, Row, Takes};
+use clap::ArgMatches;
 use giop_show::LineForm;
-use std::alloc::{AllocError, Global};
 
 /// What `trace` is asked for.
 #[derive(Debug, Drop)]
@@ -30,21 +30,31 @@ pub struct TraceWords<'a> {
         + (input client.now + option_map_or (λ name. input name.now) server 0) ≤ 1 },
 }
 
+// The argument of what the client sent.
+const CLIENT: Row = Row {
+    name: "CLIENT",
+    place: Place::Argument,
+    needed: Needed::Yes,
+    takes: Takes::Text,
+    help: "A file of what the client sent, or - for the standard input",
+};
+
+// The argument of what the server sent.
+const SERVER: Row = Row {
+    name: "SERVER",
+    place: Place::Argument,
+    needed: Needed::No,
+    takes: Takes::Text,
+    help: "A file of what the server sent, or -",
+};
+
 /// The command `trace`.
-pub(crate) fn trace_command<'a>(alloc: Global) -> Result<Command<'a>, AllocError> {
-    let client = Arg::new(alloc, "CLIENT").required(true).help(
-        "A file of what the client sent, or - for the standard input",
-    );
-    let server = Arg::new(alloc, "SERVER").help("A file of what the server sent, or -");
-    let command = Command::new(alloc, "trace")
-        .about("Shows each call of a connection, and what it came to")
-        .after_help(TRACE_HELP)
-        .arg(interface_option(alloc))?;
-    with_lines(alloc, command)?
-        .arg(message_limit_option(alloc))?
-        .arg(client)?
-        .arg(server)
-}
+pub(crate) const TRACE: CommandRow = CommandRow {
+    name: "trace",
+    about: "Shows each call of a connection, and what it came to",
+    help: TRACE_HELP,
+    rows: &[INTERFACE, JSON, JSON_NUMBERS, MESSAGE_LIMIT, CLIENT, SERVER],
+};
 
 /// What `trace` is asked for with these files, or what is wrong with a word.
 pub(crate) fn trace_words<'a>(

@@ -6,4 +6,5 @@ pub mod form;
 pub mod limit;
 pub mod number;
 pub mod object;
+pub mod row;
 pub mod session;

@@ -8,4 +8,5 @@ pub mod check;
 pub mod locate;
 mod object;
 pub mod ping;
+mod sending;
 pub mod serve;

@@ -5,7 +5,8 @@ ghost use Rattle.std.specs.Prelude.{◌≡◌, ◌+◌, ◌<◌, ◌≤◌, opti
 ghost use Rattle.std.specs.Option.{option_map_or};
 ghost use Rattle.giop_words.specs.Inputs.{input, inputs_among, is_input, target_input};
 
-use clap::{Arg, ArgAction, ArgMatches};
+use crate::words::row::{Needed, Place, Row, Takes};
+use clap::ArgMatches;
 use giop_ior::{CorbalocKind, corbaloc_from_text};
 use std::alloc::{AllocError, Global};
 
@@ -44,24 +45,22 @@ const TWICE: &str =
     "an object has one file of --interface and one of --answers, and so have all others together";
 
 /// The option of the files of interfaces.
-pub(crate) fn interface_option<'a>(alloc: Global) -> Arg<'a> {
-    Arg::new(alloc, "interface")
-        .long("interface")
-        .required(true)
-        .action(ArgAction::Append)
-        .value_name("FILE")
-        .help("The file of the interface, in JSON; KEY=FILE is that of one object alone")
-}
+pub(crate) const INTERFACE: Row = Row {
+    name: "interface",
+    place: Place::Repeated("FILE"),
+    needed: Needed::Yes,
+    takes: Takes::Text,
+    help: "The file of the interface, in JSON; KEY=FILE is that of one object alone",
+};
 
 /// The option of the files of answers.
-pub(crate) fn answers_option<'a>(alloc: Global) -> Arg<'a> {
-    Arg::new(alloc, "answers")
-        .long("answers")
-        .required(true)
-        .action(ArgAction::Append)
-        .value_name("FILE")
-        .help("The file of the answers, in JSON; KEY=FILE is that of one object alone")
-}
+pub(crate) const ANSWERS: Row = Row {
+    name: "answers",
+    place: Place::Repeated("FILE"),
+    needed: Needed::Yes,
+    takes: Takes::Text,
+    help: "The file of the answers, in JSON; KEY=FILE is that of one object alone",
+};
 
 /// The files of an option, in their order, or what is wrong with one of its words. What stands
 /// before the first `=` of a word is the key; where nothing does, there is none.

@@ -3,54 +3,51 @@
 //! docs/giopctl.md and tests/program too.
 ghost use Rattle.std.specs.Prelude.{◌≤◌, ◌^◌, IfOk};
 
-use crate::words::number::{number_of, number_option, short_number_of};
-use clap::builder::ValueParser;
-use clap::{Arg, ArgMatches, Command};
-use giop_end::Limits;
-use std::alloc::{AllocError, Global};
+use crate::words::number::{number_of, short_number_of};
+use crate::words::row::{Needed, Place, Row, Takes};
+use clap::ArgMatches;
 
 // The greatest limit of gathered octets that an end can be given.
 const MOST_GATHERED: u64 = 1 << 62;
 
-/// The option of the greatest message size.
-pub(crate) fn message_limit_option<'a>(alloc: Global) -> Arg<'a> {
-    number_option(
-        alloc,
-        "message-limit",
-        "The most octets of a message, its header not counted",
-    )
-    .default_value("1048576")
-    .value_parser(ValueParser::Unsigned(0, 4_294_967_295))
+/// What an end is to hold at most.
+#[derive(Clone, Copy, Debug)]
+pub struct LimitWords {
+    /// How many calls its table has, those that are over included.
+    pub calls: u32,
+    /// The size of a message in octets, without its header.
+    pub message: u32,
+    /// The octets of all messages of which a piece is still to come.
+    pub gathered: u64,
+    pub ghost bounded: { gathered ≤ 2 ^ 62 },
 }
 
-/// A command with the options of all limits of an end.
-pub(crate) fn with_limits<'a>(
-    alloc: Global,
-    command: Command<'a>,
-) -> Result<Command<'a>, AllocError> {
-    let calls = number_option(
-        alloc,
-        "calls-limit",
-        "The most calls in the table, those that are over included",
-    )
-    .default_value("1024")
-    .value_parser(ValueParser::Unsigned(0, 4_294_967_295));
-    command
-        .arg(message_limit_option(alloc))?
-        .arg(calls)?
-        .arg(gathered_limit_option(alloc))
-}
+/// The option of the greatest message size.
+pub(crate) const MESSAGE_LIMIT: Row = Row {
+    name: "message-limit",
+    place: Place::Option("N"),
+    needed: Needed::Default("1048576"),
+    takes: Takes::Number(0, 4_294_967_295),
+    help: "The most octets of a message, its header not counted",
+};
+
+/// The option of the most calls.
+pub(crate) const CALLS_LIMIT: Row = Row {
+    name: "calls-limit",
+    place: Place::Option("N"),
+    needed: Needed::Default("1024"),
+    takes: Takes::Number(0, 4_294_967_295),
+    help: "The most calls in the table, those that are over included",
+};
 
 /// The option of the most octets that are gathered.
-pub(crate) fn gathered_limit_option<'a>(alloc: Global) -> Arg<'a> {
-    number_option(
-        alloc,
-        "gathered-limit",
-        "The most octets of all messages of which a piece is still to come",
-    )
-    .default_value("8388608")
-    .value_parser(ValueParser::Unsigned(0, MOST_GATHERED))
-}
+pub(crate) const GATHERED_LIMIT: Row = Row {
+    name: "gathered-limit",
+    place: Place::Option("N"),
+    needed: Needed::Default("8388608"),
+    takes: Takes::Number(0, MOST_GATHERED),
+    help: "The most octets of all messages of which a piece is still to come",
+};
 
 /// The greatest message size, or what is wrong with its word.
 pub(crate) fn message_limit_of(matches: &ArgMatches) -> Result<u32, &'static str> {
@@ -79,13 +76,11 @@ fn calls_limit_of(matches: &ArgMatches) -> Result<u32, &'static str> {
 }
 
 /// The limits of an end, or what is wrong with a word.
-pub fn limits_of(matches: &ArgMatches) -> Result<Limits, &'static str>
-    ensures { IfOk result (λ limits. limits.gathered ≤ 2 ^ 62) }
-{
+pub(crate) fn limits_of(matches: &ArgMatches) -> Result<LimitWords, &'static str> {
     let message = message_limit_of(matches)?;
     let calls = calls_limit_of(matches)?;
     let gathered = gathered_limit_of(matches)?;
-    Ok(Limits {
+    Ok(LimitWords {
         calls,
         message,
         gathered,

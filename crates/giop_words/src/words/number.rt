@@ -1,12 +1,6 @@
 //! Options of a number, in decimal digits and nothing else.
 
-use clap::{Arg, ArgMatches};
-use std::alloc::Global;
-
-/// The option of a number, by its name.
-pub(crate) fn number_option<'a>(alloc: Global, name: &'a str, help: &'a str) -> Arg<'a> {
-    Arg::new(alloc, name).long(name).value_name("N").help(help)
-}
+use clap::ArgMatches;
 
 /// The number of an option; `None` where its word is no decimal digits, or a number of 2^64 or
 /// more.

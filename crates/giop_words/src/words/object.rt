@@ -3,11 +3,10 @@
 ghost use Rattle.std.proofs.Props.{props};
 ghost use Rattle.giop_words.specs.Timeout.{IsTimeout};
 
-use crate::words::form::{json_option, plain_lines_of};
-use crate::words::session::{little_option, target_option, timeout_of, timeout_option};
-use clap::{ArgMatches, Command};
+use crate::words::form::plain_lines_of;
+use crate::words::session::timeout_of;
+use clap::ArgMatches;
 use giop_show::LineForm;
-use std::alloc::{AllocError, Global};
 
 /// What `locate` and `ping` are asked for.
 #[derive(Clone, Copy, Debug)]
@@ -26,23 +25,8 @@ pub struct ObjectWords<'a> {
     pub ghost timed: { IsTimeout timeout } by { Prim.hlevel props },
 }
 
-/// A command that asks something of an object, by its name, with what it does and its help.
-pub(crate) fn object_command<'a>(
-    alloc: Global,
-    name: &'a str,
-    about: &'a str,
-    help: &'a str,
-) -> Result<Command<'a>, AllocError> {
-    Command::new(alloc, name)
-        .about(about)
-        .after_help(help)
-        .arg(target_option(alloc))?
-        .arg(timeout_option(alloc))?
-        .arg(json_option(alloc))?
-        .arg(little_option(alloc))
-}
-
-/// What such a command is asked for, or what is wrong with a word. Forwards aren't followed.
+/// What a command that asks something of an object is asked for, or what is wrong with a word.
+/// Forwards aren't followed.
 pub(crate) fn object_words<'a>(matches: &ArgMatches<'a>) -> Result<ObjectWords<'a>, &'static str> {
     match matches.get_str("target") {
         Some(target) => Ok(ObjectWords {

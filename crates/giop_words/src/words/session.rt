@@ -1,16 +1,12 @@
 //! The options of a session that several commands have: the object that is called, how messages are
 //! sent, and when calls are told. A change here is one in docs/giopctl.md and tests/program too.
-ghost use Rattle.std.specs.Prelude.{IfOk};
-ghost use Rattle.giop_end.specs.Acts.Form.{IsForm};
+ghost use Rattle.std.specs.Prelude.{◌≡◌, ◌≤◌, ◌%◌, IfOk};
 ghost use Rattle.giop_words.specs.Timeout.{IsTimeout};
 
-use crate::words::limit::with_limits;
-use crate::words::number::{number_option, short_number_of};
-use clap::builder::ValueParser;
-use clap::{Arg, ArgAction, ArgMatches, Command};
+use crate::words::number::short_number_of;
+use crate::words::row::{Needed, Place, Row, Takes};
+use clap::ArgMatches;
 use giop_cdr::Order;
-use giop_end::Form;
-use std::alloc::{AllocError, Global};
 
 /// When the calls of a connection are told.
 #[derive(Clone, Copy, Debug, PartialEq, Eq)]
@@ -21,62 +17,61 @@ pub enum Telling {
     WhenOver,
 }
 
-/// The option of the object that is called.
-pub(crate) fn target_option<'a>(alloc: Global) -> Arg<'a> {
-    Arg::new(alloc, "target")
-        .long("target")
-        .required(true)
-        .value_name("TEXT")
-        .help("The object: the text of its reference, or a corbaloc; or @ and a file of that text")
+/// How an end is to send messages (CORBA 3.3 Part 2, 9.4.9).
+#[derive(Clone, Copy, Debug)]
+pub struct SendingWords {
+    /// The byte order of a message and of its pieces.
+    pub order: Order,
+    /// How many octets a piece has at most, its header counted.
+    pub piece: u32,
+    pub ghost large: { 24 ≤ piece },
+    pub ghost multiple: { piece % 8 ≡ 0 },
 }
+
+/// The option of the object that is called.
+pub(crate) const TARGET: Row = Row {
+    name: "target",
+    place: Place::Option("TEXT"),
+    needed: Needed::Yes,
+    takes: Takes::Text,
+    help: "The object: the text of its reference, or a corbaloc; or @ and a file of that text",
+};
 
 /// The option of how long nothing may come or go.
-pub(crate) fn timeout_option<'a>(alloc: Global) -> Arg<'a> {
-    Arg::new(alloc, "timeout")
-        .long("timeout")
-        .value_name("SECONDS")
-        .value_parser(ValueParser::Unsigned(1, 86_400))
-        .help("Gives up, with status 3, where nothing comes or goes for so long")
-}
-
-/// The option by which forwards are followed.
-pub(crate) fn follow_option<'a>(alloc: Global, help: &'a str) -> Arg<'a> {
-    Arg::new(alloc, "follow")
-        .long("follow")
-        .action(ArgAction::SetTrue)
-        .help(help)
-}
+pub(crate) const TIMEOUT: Row = Row {
+    name: "timeout",
+    place: Place::Option("SECONDS"),
+    needed: Needed::No,
+    takes: Takes::Number(1, 86_400),
+    help: "Gives up, with status 3, where nothing comes or goes for so long",
+};
 
 /// The option by which each call is told as soon as it is over.
-pub(crate) fn stream_option<'a>(alloc: Global) -> Arg<'a> {
-    Arg::new(alloc, "stream")
-        .long("stream")
-        .action(ArgAction::SetTrue)
-        .help("Each call is shown as soon as it is over, and forgotten")
-}
+pub(crate) const STREAM: Row = Row {
+    name: "stream",
+    place: Place::Flag,
+    needed: Needed::No,
+    takes: Takes::Text,
+    help: "Each call is shown as soon as it is over, and forgotten",
+};
 
 /// The option of the byte order of what is sent.
-pub(crate) fn little_option<'a>(alloc: Global) -> Arg<'a> {
-    Arg::new(alloc, "little")
-        .long("little")
-        .action(ArgAction::SetTrue)
-        .help("Messages are sent little-endian, not big-endian")
-}
+pub(crate) const LITTLE: Row = Row {
+    name: "little",
+    place: Place::Flag,
+    needed: Needed::No,
+    takes: Takes::Text,
+    help: "Messages are sent little-endian, not big-endian",
+};
 
-/// A command with the options of how messages are sent, and of all limits of an end.
-pub(crate) fn with_sending<'a>(
-    alloc: Global,
-    command: Command<'a>,
-) -> Result<Command<'a>, AllocError> {
-    let piece = number_option(
-        alloc,
-        "piece",
-        "The most octets of a message, a multiple of 8 from 24 to 1048584",
-    )
-    .default_value("4096")
-    .value_parser(ValueParser::Unsigned(24, 1_048_584));
-    with_limits(alloc, command.arg(piece)?.arg(little_option(alloc))?)
-}
+/// The option of the size of pieces.
+pub(crate) const PIECE: Row = Row {
+    name: "piece",
+    place: Place::Option("N"),
+    needed: Needed::Default("4096"),
+    takes: Takes::Number(24, 1_048_584),
+    help: "The most octets of a message, a multiple of 8 from 24 to 1048584",
+};
 
 /// When calls are told.
 pub(crate) fn telling_of(matches: &ArgMatches) -> Telling {
@@ -102,19 +97,16 @@ pub fn timeout_of(matches: &ArgMatches) -> Result<Option<u32>, &'static str>
 }
 
 /// How messages are sent, or what is wrong with the word of the greatest message.
-pub fn message_form_of(matches: &ArgMatches) -> Result<Form, &'static str>
-    ensures { IfOk result (λ form. IsForm form) }
-{
+pub(crate) fn sending_of(matches: &ArgMatches) -> Result<SendingWords, &'static str> {
     let order = if matches.get_flag("little") {
         Order::Little
     } else {
         Order::Big
     };
-    if let Some(piece) = short_number_of(matches, "piece") {
-        let form = Form { order, piece };
-        if form.is_valid() && piece <= 1_048_584 {
-            return Ok(form);
+    match short_number_of(matches, "piece") {
+        Some(piece) if piece >= 24 && piece % 8 == 0 && piece <= 1_048_584 => {
+            Ok(SendingWords { order, piece })
         }
+        _ => Err("--piece is a multiple of 8 from 24 to 1048584, in decimal digits"),
     }
-    Err("--piece is a multiple of 8 from 24 to 1048584, in decimal digits")
 }

@@ -10,6 +10,7 @@ mod places;
 use crate::commands::call::asked::{Asked, asked_in, calls_given};
 use crate::commands::call::following::call_and_follow;
 use crate::commands::call::lines::call_lines;
+use crate::commands::sending::{form_of, limits_of};
 use crate::connection::target::{endpoint_of, peer_of, target_text};
 use crate::connection::{connect, endings};
 use giop_calling::call::calls::CallLine;
@@ -99,14 +100,13 @@ pub fn calling_of<'a>(
     endpoint: &'a Endpoint,
 ) -> Calling<'a>
     ensures interface { result.interface.now ≡ interface.now }
-    ensures limits { result.limits ≡ words.now.limits }
 {
     Calling {
         interface,
         key: endpoint.key.as_slice(),
         version: endpoint.version,
-        form: words.form,
-        limits: words.limits,
+        form: form_of(words.sending),
+        limits: limits_of(words.limits),
         lines: words.lines,
     }
 }

@@ -1,6 +1,7 @@
 //! `check` over files and the standard output. What it prints is giop_commands' check.rt, over any
 //! reader and writer.
 
+use crate::commands::sending::limits_of;
 use giop_commands::{Checking, check_stream, check_text};
 use giop_files::files::OUTPUT_BUFFER;
 use giop_files::files::interfaces::{By, Joined, join_offers, read_each};
@@ -50,7 +51,7 @@ fn check_from<R: Read>(
 ) -> Result<Status, Failure> {
     let mut writer = BufWriter::with_capacity(rt.alloc(), OUTPUT_BUFFER, io::writer(rt))?;
     let checking = Checking {
-        limits: words.limits,
+        limits: limits_of(words.limits),
         strict: words.strict,
         lines: words.form,
         behind,

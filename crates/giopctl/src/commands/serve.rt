@@ -6,6 +6,7 @@ mod object_operations;
 mod objects;
 mod places;
 
+use crate::commands::sending::{form_of, limits_of};
 use crate::commands::serve::listening::{HERE, listen};
 use crate::commands::serve::objects::{Asked, objects_of, read_answers};
 use crate::connection::door::Door;
@@ -62,8 +63,8 @@ fn try_serve(rt: &HostRuntime, words: &ServeWords<'_>) -> Result<Status, Status>
     let serving = Serving {
         interface: &all.interface,
         objects: objects.as_slice(),
-        form: words.form,
-        limits: words.limits,
+        form: form_of(words.sending),
+        limits: limits_of(words.limits),
         lines: words.lines,
     };
     let listener = listen(rt, words, all.type_id.as_slice(), key.as_slice())?;

@@ -7,6 +7,7 @@ use crate::commands::call::{Object, calling_of};
 use crate::connection::forwards::{MOST_FORWARDS, place_text};
 use crate::connection::target::peer_of;
 use crate::connection::{connect, endings};
+use giop_calling::Calling;
 use giop_calling::call::calls::CallLine;
 use giop_calling::call::following::{Forward, call_at, calls_of, forwards_of, tell_followed};
 use giop_commands::Endpoint;
@@ -141,38 +142,58 @@ fn session_at<'a>(
     calls: Vec<CallLine>,
     sessions: &mut Sessions<'a>,
 ) -> Result<(), Status> {
-    let peer = peer_of(rt, words.target, endpoint)?;
-    let mut end = ClientEnd::new(rt.alloc(), interface, words.limits);
-    match call_in_session(rt, words, interface, endpoint, calls, &mut end) {
-        Ok(refused) => {
-            print_open_calls(rt, words, peer.as_str(), &end, refused)?;
-            sessions.refused = refused;
-        }
-        Err(Failure::Memory) => {
-            return Err(report::status_of(rt, words.target, Err(Failure::Memory)));
-        }
-        Err(failure) => sessions.failed = Some((peer, failure)),
-    }
+    let calling = calling_of(words, interface, endpoint);
+    let mut end = ClientEnd::new(rt.alloc(), interface, calling.limits);
+    call_by(rt, words, endpoint, calling, calls, &mut end, sessions)?;
     match sessions.ends.push(end) {
         Ok(()) => Ok(()),
-        Err(_) => Err(report::status_of(rt, words.target, Err(Failure::Memory))),
+        Err(_) => Err(out_of_memory(rt, words)),
     }
+}
+
+// Makes calls by an end, and notes what was refused or failed.
+fn call_by(
+    rt: &HostRuntime,
+    words: &CallWords<'_>,
+    endpoint: &Endpoint,
+    calling: Calling<'_>,
+    calls: Vec<CallLine>,
+    end: &mut ClientEnd<'_>,
+    sessions: &mut Sessions<'_>,
+) -> Result<(), Status>
+    requires interface { end.old.interface.now ≡ calling.interface.now }
+    requires limits { end.old.limits ≡ calling.limits }
+{
+    let peer = peer_of(rt, words.target, endpoint)?;
+    match call_in_session(rt, words, endpoint, calling, calls, end) {
+        Ok(refused) => {
+            print_open_calls(rt, words, peer.as_str(), end, refused)?;
+            sessions.refused = refused;
+        }
+        Err(Failure::Memory) => return Err(out_of_memory(rt, words)),
+        Err(failure) => sessions.failed = Some((peer, failure)),
+    }
+    Ok(())
+}
+
+// That it is out of memory.
+fn out_of_memory(rt: &HostRuntime, words: &CallWords<'_>) -> Status {
+    report::status_of(rt, words.target, Err(Failure::Memory))
 }
 
 fn call_in_session(
     rt: &HostRuntime,
     words: &CallWords<'_>,
-    interface: &Interface,
     endpoint: &Endpoint,
+    calling: Calling<'_>,
     calls: Vec<CallLine>,
     end: &mut ClientEnd<'_>,
 ) -> Result<Option<SessionFault>, Failure>
-    requires interface { end.old.interface.now ≡ interface.now }
-    requires limits { end.old.limits ≡ words.now.limits }
+    requires interface { end.old.interface.now ≡ calling.interface.now }
+    requires limits { end.old.limits ≡ calling.limits }
 {
     let link = connect(rt, endpoint, words.timeout)?;
     let (mut reader, mut writer) = (&link, &link);
-    let calling = calling_of(words, interface, endpoint);
     call_at(rt.alloc(), end, calling, calls, &mut reader, &mut writer)
 }
 

@@ -64,13 +64,30 @@ fn session_at(
     endpoint: &Endpoint,
     may_go_on: bool,
 ) -> Result<Outcome, Status> {
-    let peer = peer_of(rt, words.target, endpoint)?;
     let limits = Limits::default();
     let mut end = ClientEnd::new(rt.alloc(), interface, limits);
-    let refused = match ask_at(rt, words, interface, endpoint, limits, &mut end) {
+    ask_by(rt, words, interface, endpoint, limits, may_go_on, &mut end)
+}
+
+// Asks by an end.
+fn ask_by(
+    rt: &HostRuntime,
+    words: ObjectWords,
+    interface: &Interface,
+    endpoint: &Endpoint,
+    limits: Limits,
+    may_go_on: bool,
+    end: &mut ClientEnd<'_>,
+) -> Result<Outcome, Status>
+    requires interface { end.old.interface.now ≡ interface.now }
+    requires limits { end.old.limits ≡ limits }
+    requires bounded { AreLimits limits }
+{
+    let peer = peer_of(rt, words.target, endpoint)?;
+    let refused = match ask_at(rt, words, interface, endpoint, limits, end) {
         Ok(refused) => refused,
         Err(failure) => {
-            let failed = tell_failure(rt, words, interface, &end, failure);
+            let failed = tell_failure(rt, words, interface, end, failure);
             return Ok(Outcome::Told(endings::call_status(
                 rt,
                 peer.as_str(),
@@ -79,7 +96,7 @@ fn session_at(
             )));
         }
     };
-    match located_place(rt.alloc(), &end) {
+    match located_place(rt.alloc(), end) {
         Ok(Some(to)) if may_go_on => return Ok(Outcome::Elsewhere(to)),
         Ok(Some(to)) => print_place(
             rt,
@@ -89,7 +106,7 @@ fn session_at(
         Ok(None) => {}
         Err(failure) => return Err(report::status_of(rt, words.target, Err(failure))),
     }
-    let told = tell_answer(rt, words, interface, &end, refused);
+    let told = tell_answer(rt, words, interface, end, refused);
     Ok(Outcome::Told(endings::call_status(rt, peer.as_str(), words.timeout, told)))
 }
 

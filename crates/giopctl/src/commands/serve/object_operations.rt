@@ -59,13 +59,21 @@ fn or_given(
 fn with_operations(alloc: Global, interface: &[u8]) -> Result<String, FormFault> {
     let mut file = parse_json(alloc, interface)?;
     if let Some(operations) = operations_of(&mut file) {
-        let outs = json!(in alloc; [["is", "boolean"]])?;
-        let is_a = json!(in alloc; {"ins": [["id", "string"]], "outs": outs})?;
-        put_wanting(alloc, operations, IS_A, is_a)?;
-        let non_existent = json!(in alloc; {"outs": [["is", "boolean"]]})?;
-        put_wanting(alloc, operations, NON_EXISTENT, non_existent)?;
+        put_is_a(alloc, operations)?;
+        put_non_existent(alloc, operations)?;
     }
     Ok(file.to_string(alloc)?)
+}
+
+fn put_is_a(alloc: Global, operations: &mut Map<String, Json>) -> Result<(), AllocError> {
+    let outs = json!(in alloc; [["is", "boolean"]])?;
+    let is_a = json!(in alloc; {"ins": [["id", "string"]], "outs": outs})?;
+    put_wanting(alloc, operations, IS_A, is_a)
+}
+
+fn put_non_existent(alloc: Global, operations: &mut Map<String, Json>) -> Result<(), AllocError> {
+    let non_existent = json!(in alloc; {"outs": [["is", "boolean"]]})?;
+    put_wanting(alloc, operations, NON_EXISTENT, non_existent)
 }
 
 // The operations of an interface's file.

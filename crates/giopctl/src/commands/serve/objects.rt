@@ -1,6 +1,7 @@
 //! The objects that `serve` serves: that of --key, and those of which a file of interfaces or
 //! answers names the key. Each has an interface and answers, its own or those of all others.
 
+use crate::commands::sending::{form_of, limits_of};
 use crate::commands::serve::object_operations::{Texts, texts_of};
 use crate::commands::serve::places::{WIDE, of_answers};
 use giop_end::Limits;
@@ -235,7 +236,7 @@ fn answers_of(
 ) -> Result<Answers, Status> {
     let (alloc, lines, file) = (rt.alloc(), words.lines, given.file);
     let (answers, text) = (texts.answers.as_slice(), given.text.as_slice());
-    let sending = sending_within(words, words.limits);
+    let sending = sending_within(words, limits_of(words.limits));
     let fault = match answers_from_json(alloc, interface, sending, answers) {
         Ok(answers) => return Ok(answers),
         Err(fault) => fault,
@@ -253,7 +254,7 @@ fn answers_of(
 // How answers are sent within limits.
 fn sending_within(words: &ServeWords<'_>, limits: Limits) -> Sending {
     Sending {
-        form: words.form,
+        form: form_of(words.sending),
         limits,
     }
 }
@@ -266,7 +267,7 @@ fn limit_passed(
     interface: &Interface,
     answers: &[u8],
 ) -> Limit {
-    let mut limits = words.limits;
+    let mut limits = limits_of(words.limits);
     limits.message = u32::MAX;
     match answers_from_json(alloc, interface, sending_within(words, limits), answers) {
         Ok(_) => Limit::Message,
