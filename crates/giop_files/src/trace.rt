@@ -1,4 +1,4 @@
-//! `trace` over files and the standard output. What it prints is giop_show's trace.rt, over any
+//! `trace` over files and the standard output. What it prints is giop_tracing's trace.rt, over any
 //! readers and writer.
 ghost use Rattle.std.specs.Prelude.{IfOk};
 ghost use Rattle.giop_show.specs.Status.{IsJudged};
@@ -10,7 +10,7 @@ use crate::report::texts;
 use crate::{files, report};
 use giop_show::failure::Failure;
 use giop_show::status::Status;
-use giop_show::{Heard, trace_stream, trace_text};
+use giop_tracing::{Heard, trace_stream, trace_text};
 use giop_words::TraceWords;
 use std::io;
 use std::io::{BufWriter, Read, Write};

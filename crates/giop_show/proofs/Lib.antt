@@ -1,8 +1,4 @@
 pub mod DumpLemmas
-pub mod IncomingLemmas
-pub mod TraceLemmas
-pub mod OrderLemmas
-pub mod TracedLemmas
 pub mod JoiningLemmas
 pub mod PiecesLemmas
 pub mod ConvertLemmas

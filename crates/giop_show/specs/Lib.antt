@@ -3,4 +3,3 @@ pub mod Forms
 pub mod Convert
 pub mod Bodies
 pub mod Dump
-pub mod Trace

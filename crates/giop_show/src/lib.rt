@@ -1,6 +1,6 @@
-//! What giopctl shows of files, over any reader and any writer: the messages of `dump`, the calls
-//! of `trace`, references and values in another form by `convert`. Each returns the exit status,
-//! and a contract says what it prints.
+//! What giopctl shows of files, over any reader and any writer: the messages of `dump`, and
+//! references and values in another form by `convert`. Each returns the exit status, and a contract
+//! says what it prints.
 #![tactic(auto)]
 
 pub mod bodies;
@@ -8,10 +8,8 @@ pub mod convert;
 pub mod dump;
 pub mod failure;
 pub mod form;
-pub mod laws;
 pub mod pieces;
 pub mod status;
-pub mod trace;
 
 pub use convert::described::{Way, convert_value};
 pub use convert::reference::{convert_corbaloc, convert_ior};
@@ -20,5 +18,3 @@ pub use dump::teller::Teller;
 pub use dump::text::dump_text;
 pub use dump::{BehindFault, MESSAGE_LIMIT, dump_by, dump_octets, dump_stream};
 pub use form::{LineForm, refuse_in};
-pub use trace::text::trace_text;
-pub use trace::{Heard, trace_stream};

@@ -6,7 +6,7 @@ use Rattle.giop_msg.specs.RequestId.{request_id_layout, request_id_of}
 use Rattle.giop_trace.specs.Observing.{own}
 use Rattle.laws_in_use.specs.Asking.{here_begins, here_ends, unknown_little}
 use Rattle.laws_in_use.specs.Locating.{door_begins, door_ends, key_big}
-use Rattle.giop_show.specs.Trace.Order.{of_client, of_server}
+use Rattle.giop_tracing.specs.Trace.Order.{of_client, of_server}
 use Rattle.laws_in_use.specs.Observed.{before_the_last, in_turn, whole}
 
 pub own_before : own 7 before_the_last

@@ -6,8 +6,8 @@ use Rattle.giop_msg.specs.declared.msg.Msg.{Msg}
 use Rattle.giop_trace.specs.declared.flow.Flow.{Flow}
 use Rattle.giop_trace.specs.Flows.{is_waiting}
 use Rattle.giop_trace.specs.Observing.{Brought, is_early, is_early_by, left_alone, left_of_all, own}
-use Rattle.giop_show.specs.Trace.Order.{IsOrder, of_client, of_server}
-use Rattle.giop_show.proofs.OrderLemmas.{order_begins}
+use Rattle.giop_tracing.specs.Trace.Order.{IsOrder, of_client, of_server}
+use Rattle.giop_tracing.proofs.OrderLemmas.{order_begins}
 use Rattle.laws_in_use.specs.Asking.{here_begins, here_ends, unknown_little}
 use Rattle.laws_in_use.specs.Locating.{door_begins, key_big}
 use Rattle.laws_in_use.specs.Observed.{answered, asked, in_turn}

@@ -4,7 +4,7 @@ use Rattle.std.specs.Prelude.{false, List, [], ◌∷◌, ◌++◌, drop, Some}
 use Rattle.giop_msg.specs.declared.msg.Msg.{Msg}
 use Rattle.giop_trace.specs.Observing.{Brought}
 use Rattle.giop_trace.specs.declared.flow.Flow.{Flow}
-use Rattle.giop_show.specs.Trace.Order.{of_client, of_server}
+use Rattle.giop_tracing.specs.Trace.Order.{of_client, of_server}
 use Rattle.laws_in_use.specs.Asking.{here_begins, here_ends, unknown_little}
 use Rattle.laws_in_use.specs.Locating.{cancel_little, door_begins, door_ends, key_big}
 

@@ -4,16 +4,16 @@ ghost use Rattle.std.specs.Prelude.{◌≡◌, List, None, Some, false};
 ghost use Rattle.std.specs.FinMap as finite;
 ghost use Rattle.std.specs.List.{flat_map};
 ghost use Rattle.giop_ids.specs.ById.{ById};
-ghost use Rattle.giop_show.specs.Trace.Order.{IsOrder};
-ghost use Rattle.giop_show.specs.Trace.Text.{both_turn, heard_lines};
+ghost use Rattle.giop_tracing.specs.Trace.Order.{IsOrder};
+ghost use Rattle.giop_tracing.specs.Trace.Text.{both_turn, heard_lines};
 ghost use Rattle.giop_show.specs.declared.form.LineForm.{LineForm};
 ghost use Rattle.giop_trace.specs.Observing.{Brought, left_of_all, told_of_all};
 ghost use Rattle.giop_trace.specs.declared.flow.Flow.{Flow};
 ghost use Rattle.giop_types.specs.declared.json.interface.Interface.{Interface};
 ghost use Rattle.laws_in_use.specs.Observed.{answered, asked, before_the_last, in_part, in_turn, whole};
 
-use giop_show::laws::one_order;
 use giop_trace::laws::each_call_alone;
+use giop_tracing::laws::one_order;
 
 /// What is asked, cancelled and answered under 9 between the messages of 7 changes nothing of 7: its
 /// request is joined, its answer is there in part, and behind the last Fragment nothing is left.

@@ -1,7 +1,7 @@
 use Rattle.std.proofs.Common.{◌∙◌, None, false, ap}
 use Rattle.std.specs.FinMap as finite
 use Rattle.giop_trace.specs.Observing.{left_alone, own}
-use Rattle.giop_show.specs.Trace.Text.{Turn}
+use Rattle.giop_tracing.specs.Trace.Text.{Turn}
 use Rattle.laws_in_use.specs.Observed.{answered, asked, in_turn}
 use Rattle.laws_in_use.proofs.ObservedOwn.{own_in_turn}
 use Rattle.laws_in_use.proofs.ObservedTurns.{told_in_turn}

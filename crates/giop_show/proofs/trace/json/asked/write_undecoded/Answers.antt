@@ -1,4 +1,0 @@
-use Rattle.giop_show.proofs.trace.json.asked.write_undecoded.Goals as goal
-
-pub returns : goal.returns
-returns g c = rw c.as_slice.ensures at c.in_ok-write.ensures.bytes

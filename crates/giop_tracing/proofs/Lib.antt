@@ -1,0 +1,4 @@
+pub mod IncomingLemmas
+pub mod TraceLemmas
+pub mod OrderLemmas
+pub mod TracedLemmas
