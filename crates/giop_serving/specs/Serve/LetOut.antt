@@ -27,6 +27,10 @@ asking version name = record {
   body = [];
 }
 
+-- a Reply as it is in another version
+abbrev pub in_version : Reply → Version → Reply
+in_version reply version = record reply { version = version }
+
 -- the Reply of an answer
 abbrev pub reply_with : AnswerGiven → Version → Reply
 reply_with given version = record {
@@ -41,9 +45,13 @@ abbrev pub goes_out : Interface → Sending → List ℕ → Reply → Bool
 goes_out interface sending name reply = is_reply_sendable interface sending.limits
     (Some (asking reply.version name)) reply sending.form
 
+-- whether the Reply of some version does, by what it is in each
+abbrev pub goes_out_in_some : Interface → Sending → List ℕ → (Version → Reply) → Bool
+goes_out_in_some interface sending name reply = goes_out interface sending name (reply V12)
+    || (goes_out interface sending name (reply V11)
+    || goes_out interface sending name (reply V10))
+
 -- whether that of an answer does in some version
 abbrev pub is_let_out : Interface → Sending → List ℕ → AnswerGiven → Bool
 is_let_out interface sending name given =
-    goes_out interface sending name (reply_with given V12)
-    || (goes_out interface sending name (reply_with given V11)
-    || goes_out interface sending name (reply_with given V10))
+    goes_out_in_some interface sending name (reply_with given)

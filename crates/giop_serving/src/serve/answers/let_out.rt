@@ -2,7 +2,7 @@
 //! specs/Serve/LetOut.antt: change both.
 ghost use Rattle.std.specs.Prelude.{◌≡◌, ◌<◌, ◌≤◌, ◌^◌, length, IfOk};
 ghost use Rattle.giop_end.specs.Acts.Form.{is_fragmented, is_sendable, largest};
-ghost use Rattle.giop_serving.specs.Serve.LetOut.{asking, goes_out, is_let_out};
+ghost use Rattle.giop_serving.specs.Serve.LetOut.{asking, goes_out, goes_out_in_some, in_version, is_let_out};
 
 use crate::serve::answers::AnswerGiven;
 use crate::serve::given::Sending;
@@ -29,15 +29,30 @@ pub fn is_let_out(
         contexts: ServiceContexts::new(alloc),
         body: given_body(alloc, &[], Some(given))?,
     };
-    if goes_out(alloc, interface, sending, name, &reply)? {
+    goes_out_in_some(alloc, interface, sending, name, &mut reply)
+}
+
+// Whether a Reply to a Request of an operation can be sent in some version.
+fn goes_out_in_some(
+    alloc: Global,
+    interface: &Interface,
+    sending: Sending,
+    name: &[u8],
+    reply: &mut Reply,
+) -> Result<bool, AllocError>
+    ensures { IfOk result (λ out.
+        out ≡ goes_out_in_some interface.now sending name.now (in_version reply.old)) }
+{
+    reply.version = Version::V12;
+    if goes_out(alloc, interface, sending, name, reply)? {
         return Ok(true);
     }
     reply.version = Version::V11;
-    if goes_out(alloc, interface, sending, name, &reply)? {
+    if goes_out(alloc, interface, sending, name, reply)? {
         return Ok(true);
     }
     reply.version = Version::V10;
-    goes_out(alloc, interface, sending, name, &reply)
+    goes_out(alloc, interface, sending, name, reply)
 }
 
 // Whether a Reply to a Request of an operation can be sent, in the version that it has.
