@@ -7,7 +7,7 @@ mod following;
 mod lines;
 mod places;
 
-use crate::commands::call::asked::{Asked, asked_in, calls_given};
+use crate::commands::call::asked::{Asked, Given, asked_in, calls_given};
 use crate::commands::call::following::call_and_follow;
 use crate::commands::call::lines::call_lines;
 use crate::commands::sending::{form_of, limits_of};
@@ -51,29 +51,45 @@ fn try_call(rt: &HostRuntime, words: CallWords) -> Result<Status, Status> {
     let target = target_text(rt, words.target)?;
     let offered = read_each(rt, words.interfaces.as_slice())?;
     let asked = asked_in(rt, &words, offered.as_slice())?;
-    let endpoint = endpoint_of(rt, words.lines, words.target, target.as_slice())?;
-    interface_of_each(rt, words.lines, offered.as_slice())?;
-    let (interface, text) = object_of(rt, offered.as_slice(), endpoint.key.as_slice())?;
+    call_asked(rt, &words, target.as_slice(), offered.as_slice(), asked)
+}
+
+// Makes calls at the object of a target's text, which offers one of these.
+fn call_asked(
+    rt: &HostRuntime,
+    words: &CallWords<'_>,
+    target: &[u8],
+    offered: &[Offered<'_>],
+    asked: Asked,
+) -> Result<Status, Status> {
+    let endpoint = endpoint_of(rt, words.lines, words.target, target)?;
+    interface_of_each(rt, words.lines, offered)?;
+    let (interface, text) = object_of(rt, offered, endpoint.key.as_slice())?;
     let object = Object {
         text,
         interface: &interface,
     };
-    let given = match asked {
-        Asked::Lines(file) => return call_lines(rt, file, object, &endpoint, &words),
-        Asked::Given(given) => given,
-    };
-    if words.follow {
-        return call_and_follow(rt, &words, object, &given, &endpoint);
+    match asked {
+        Asked::Lines(file) => call_lines(rt, file, object, &endpoint, words),
+        Asked::Given(given) if words.follow => {
+            call_and_follow(rt, words, object, &given, &endpoint)
+        }
+        Asked::Given(given) => call_given(rt, words, object, &given, &endpoint),
     }
-    let calls = calls_given(rt, &words, object, &given)?;
-    let peer = peer_of(rt, words.target, &endpoint)?;
-    let answered = call_at(
-        rt,
-        calls,
-        &endpoint,
-        &words,
-        calling_of(&words, &interface, &endpoint),
-    );
+}
+
+// Makes calls that are given at once, in one session.
+fn call_given(
+    rt: &HostRuntime,
+    words: &CallWords<'_>,
+    object: Object<'_>,
+    given: &Given,
+    endpoint: &Endpoint,
+) -> Result<Status, Status> {
+    let calls = calls_given(rt, words, object, given)?;
+    let peer = peer_of(rt, words.target, endpoint)?;
+    let calling = calling_of(words, object.interface, endpoint);
+    let answered = call_at(rt, calls, endpoint, words, calling);
     Ok(endings::call_status(rt, peer.as_str(), words.timeout, answered))
 }
 

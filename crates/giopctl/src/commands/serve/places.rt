@@ -186,22 +186,42 @@ fn answer_refusal(
     answer: &Json,
     sending: Sending,
 ) -> Result<u8, AllocError> {
+    let interface = alone(alloc, offered, name, operation)?;
+    let text = json!(in alloc; {(name): answer})?.to_string(alloc)?;
+    match Interface::from_json(alloc, interface.as_bytes()) {
+        Ok(interface) => refusal(alloc, &interface, sending, text.as_bytes()),
+        Err(FormFault::NoMemory) => Err(AllocError),
+        Err(_) => Ok(0),
+    }
+}
+
+// The text of an interface of one operation, and of the exceptions that are offered.
+fn alone(
+    alloc: Global,
+    offered: &Json,
+    name: &str,
+    operation: &Json,
+) -> Result<String, AllocError> {
     let interface = match offered.get("exceptions") {
         Some(exceptions) => {
             json!(in alloc; {"operations": {(name): operation}, "exceptions": exceptions})?
         }
         None => json!(in alloc; {"operations": {(name): operation}})?,
     };
-    let interface = interface.to_string(alloc)?;
-    let text = json!(in alloc; {(name): answer})?.to_string(alloc)?;
-    match Interface::from_json(alloc, interface.as_bytes()) {
-        Ok(interface) => match answers_from_json(alloc, &interface, sending, text.as_bytes()) {
-            Ok(_) => Ok(0),
-            Err(FormFault::NoMemory) => Err(AllocError),
-            Err(fault) => Ok(fault_code(fault)),
-        },
+    interface.to_string(alloc)
+}
+
+// The number of the fault of a text of answers, 0 where it has none.
+fn refusal(
+    alloc: Global,
+    interface: &Interface,
+    sending: Sending,
+    answers: &[u8],
+) -> Result<u8, AllocError> {
+    match answers_from_json(alloc, interface, sending, answers) {
+        Ok(_) => Ok(0),
         Err(FormFault::NoMemory) => Err(AllocError),
-        Err(_) => Ok(0),
+        Err(fault) => Ok(fault_code(fault)),
     }
 }
 
