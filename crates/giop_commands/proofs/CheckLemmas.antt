@@ -21,8 +21,8 @@ use Rattle.giop_show.specs.declared.failure.Failure.{Failure}
 use Rattle.giop_show.specs.declared.status.Status.{Status}
 use Rattle.giop_show.specs.declared.status.Status.TheVariants.{Done, Refused, LimitPassed, Usage, InputOutput, Memory}
 use Rattle.giop_types.specs.declared.json.number_form.NumberForm.TheVariants.{Plain}
-use Rattle.giop_show.specs.declared.form.LineForm.{LineForm}
-use Rattle.giop_show.specs.declared.form.LineForm.TheVariants.{Text}
+use Rattle.giop_forms.specs.declared.line_form.LineForm.{LineForm}
+use Rattle.giop_forms.specs.declared.line_form.LineForm.TheVariants.{Text}
 use Rattle.giop_commands.specs.Check.{Checks, ChecksKnown, HeardKnown, Hears, IsChecked, last_status, nothing_read, server_hears, strict_status}
 use Rattle.giop_commands.specs.Session.Faults.Lines.{last_in}
 use Rattle.giop_show.specs.Dump.Text.{ended}

@@ -27,9 +27,9 @@ use Rattle.giop_end.specs.Hearing.ServerHears.{server_act, server_breaks}
 use Rattle.giop_show.specs.declared.status.Status.{Status}
 use Rattle.giop_show.specs.declared.status.Status.TheVariants.{Done, Refused, InputOutput, Memory}
 use Rattle.giop_lines.specs.declared.refusal.RefusalLine.TheVariants.{Form}
-use Rattle.giop_show.specs.declared.form.LineForm.{LineForm}
+use Rattle.giop_forms.specs.declared.line_form.LineForm.{LineForm}
 use Rattle.giop_types.specs.declared.json.number_form.NumberForm.TheVariants.{Plain}
-use Rattle.giop_show.specs.declared.form.LineForm.TheVariants.{Text}
+use Rattle.giop_forms.specs.declared.line_form.LineForm.TheVariants.{Text}
 use Rattle.giop_show.specs.Dump.Text.{ended}
 use Rattle.giop_show.specs.Forms.{refused_in}
 use Rattle.giop_commands.specs.Session.Faults.Lines.{last_in}

@@ -31,8 +31,9 @@ use crate::session::faults::lines::SessionFaultLine;
 use crate::session::given::Showing;
 use crate::session::table::{Tabled, write_table};
 use giop_end::{End, Hearing, PumpFault, SessionFault, turn, write_out};
+use giop_forms::LineForm;
 use giop_show::failure::Failure;
-use giop_show::form::{LineForm, write_line};
+use giop_show::form::write_line;
 use std::alloc::Global;
 use std::io::{Read, Write};
 

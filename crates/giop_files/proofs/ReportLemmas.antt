@@ -2,9 +2,9 @@
 use Rattle.std.proofs.Common.{◌≡◌, refl, inl, inr, ℕ, List, Option, Result, Ok, Err, IfOk}
 use Rattle.giop_cdr.specs.declared.order.Order.{Order}
 use Rattle.giop_show.specs.Convert.{ConvertsIor, ConvertsCorbaloc, ConvertsValue, ConvertsEncode, ConvertsDecode}
-use Rattle.giop_show.specs.declared.convert.described.Way.{Way}
-use Rattle.giop_show.specs.declared.convert.described.Way.TheVariants.{Encode, Decode}
-use Rattle.giop_show.specs.declared.form.LineForm.{LineForm}
+use Rattle.giop_forms.specs.declared.way.Way.{Way}
+use Rattle.giop_forms.specs.declared.way.Way.TheVariants.{Encode, Decode}
+use Rattle.giop_forms.specs.declared.line_form.LineForm.{LineForm}
 use Rattle.giop_types.specs.declared.json.number_form.NumberForm.{NumberForm}
 use Rattle.giop_types.specs.Descriptions.Shape.{Shape}
 use Rattle.giop_show.specs.Status.{IsJudged, answered_status, failure_status}

@@ -1,6 +1,5 @@
-//! What giopctl does over files: its commands that hold no connection, `dump`, `trace` and
-//! `convert`, and what the others have in common with them: files that are read, where a refused
-//! one is at fault, and what standard error says.
+//! What giopctl does over files: `dump` and `convert`, and what other commands have in common with
+//! them: files that are read, where a refused one is at fault, and what standard error says.
 #![tactic(auto)]
 
 pub mod convert;
@@ -9,4 +8,3 @@ pub mod files;
 pub mod laws;
 pub mod places;
 pub mod report;
-pub mod trace;

@@ -12,9 +12,7 @@ use Rattle.giop_msg.specs.Fault.{wire_kind_number, wire_kind_name}
 use Rattle.giop_msg.specs.Target.{AnyTarget}
 use Rattle.giop_types.specs.declared.json.form_fault.FormFault.{FormFault}
 use Rattle.giop_types.specs.JsonForms.FormFault.{form_fault_name, form_fault_number}
-use Rattle.giop_trace.specs.declared.direction.Direction.{Direction}
 use Rattle.giop_lines.specs.Octets.{hex_text}
-use Rattle.giop_lines.specs.TraceLines.{direction_name}
 
 -- an octet is printable ASCII
 abbrev pub is_printable_octet : ℕ → Bool
@@ -82,15 +80,6 @@ abbrev pub request_fault_json : RequestFault → List ℕ
 request_fault_json (Header e) = codes "\"part\":\"header\",\"fault\":" ++ cdr_fault_json e
 request_fault_json Operation = codes "\"part\":\"operation\""
 request_fault_json (Body e) = codes "\"part\":\"body\",\"fault\":" ++ cdr_fault_json e
-
--- how a direction ends: with a fault in a header, or with so many octets left
-abbrev pub direction_end_json : Direction → Option WireFault → ℕ → List ℕ
-direction_end_json direction (Some e) rest =
-    codes "{\"end\":\"" ++ (direction_name direction ++ (codes "\",\"fault\":" ++
-    (wire_fault_json e ++ codes "}")))
-direction_end_json direction None rest =
-    codes "{\"end\":\"" ++ (direction_name direction ++ (codes "\",\"rest\":" ++
-    (decimal rest ++ codes "}")))
 
 -- why an interface is refused
 abbrev pub refused_json : FormFault → List ℕ

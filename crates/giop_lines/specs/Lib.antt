@@ -1,11 +1,8 @@
 pub mod Octets
 pub mod Lines
 pub mod ConvertLines
-pub mod TableLines
 pub mod TraceLines
 pub mod JsonLines
 pub mod DumpJson
-pub mod TableJson
-pub mod SessionJson
 pub mod ConvertJson
 pub mod BodyLines

@@ -1,6 +1,6 @@
 //! The lines that `dump` writes of bodies: what the ins of a Request are, why they can't be read,
 //! and what becomes of the pieces of one. Their texts are specs/BodyLines.antt.
-use crate::RequestFaultText;
+use crate::CdrFaultText;
 use giop_frag::GatherFault;
 use giop_msg::{Kind, RequestFault};
 use std::fmt;
@@ -69,5 +69,24 @@ impl fmt::Display for UnjoinedLine {
 
     fn fmt<W: fmt::Write>(&self, f: &mut fmt::Formatter<W>) -> fmt::Result {
         write!(f, "  unjoined {} {}", self.0.number(), self.0)
+    }
+}
+
+/// Why a Request or a LocateRequest can't be decoded: `header FAULT`, `operation` or `body FAULT`.
+#[derive(Clone, Copy)]
+pub struct RequestFaultText(pub RequestFault);
+
+impl fmt::Display for RequestFaultText {
+    ghost use Rattle.std.specs.Prelude.{Some};
+    ghost use Rattle.giop_lines.specs.BodyLines.{request_fault_text};
+
+    ghost output = { λ t. Some (request_fault_text t.0) };
+
+    fn fmt<W: fmt::Write>(&self, f: &mut fmt::Formatter<W>) -> fmt::Result {
+        match self.0 {
+            RequestFault::Header(fault) => write!(f, "header {}", CdrFaultText(fault)),
+            RequestFault::Operation => f.write_str("operation"),
+            RequestFault::Body(fault) => write!(f, "body {}", CdrFaultText(fault)),
+        }
     }
 }

@@ -1,13 +1,10 @@
 //! The JSON lines. The texts of what several commands tell are specs/JsonLines.antt, those of one
-//! alone specs/DumpJson.antt, TableJson.antt, SessionJson.antt and ConvertJson.antt.
+//! alone specs/DumpJson.antt and ConvertJson.antt.
 ghost use Rattle.std.specs.Prelude.{◌≡◌};
 ghost use Rattle.giop_lines.specs.JsonLines.{is_printable};
 
-mod answered;
 mod body;
-mod call;
 mod end;
-mod entry;
 mod head;
 mod message;
 mod reference;
@@ -15,15 +12,10 @@ mod refusal;
 mod target;
 
 use crate::HexText;
-use crate::call::traced::DirectionText;
-pub use answered::{AnswerJson, AnsweredJson, ConnectionJson};
 pub use body::{InsJson, JoinedJson, RequestFaultJson, UndecodedJson, UnjoinedJson};
-pub use call::{ClientEntryJson, OutcomeJson, UnsentJson};
 pub use end::{FaultJson, RestJson};
-pub use entry::{AskedJson, EntryJson, ServerEntryJson};
 use giop_cdr::CdrFault;
 use giop_msg::WireFault;
-use giop_trace::Direction;
 use giop_types::FormFault;
 pub use head::{HeadFaultJson, LocateReplyJson, LocateRequestJson, ReplyJson, RequestJson};
 pub use message::MessageJson;
@@ -182,36 +174,6 @@ fn is_printable(octets: &[u8]) -> bool
     ensures { result ≡ is_printable octets.now }
 {
     octets.iter().all(|octet| 0x20 <= *octet && *octet <= 0x7E)
-}
-
-/// How a direction ends: `{"end":"client","rest":N}`, or `{"end":"client","fault":FAULT}` where the
-/// header that stands there is wrong; and `server` likewise.
-#[derive(Clone, Copy)]
-pub struct DirectionEndJson {
-    /// Which direction.
-    pub direction: Direction,
-    /// What is wrong with the header, with its place, which counts from its first octet.
-    pub fault: Option<WireFault>,
-    /// How many octets are left.
-    pub rest: usize,
-}
-
-impl fmt::Display for DirectionEndJson {
-    ghost use Rattle.std.specs.Prelude.{Some};
-    ghost use Rattle.giop_lines.specs.JsonLines.{direction_end_json};
-
-    ghost output = { λ l. Some (direction_end_json l.direction l.fault l.rest) };
-
-    fn fmt<W: fmt::Write>(&self, f: &mut fmt::Formatter<W>) -> fmt::Result {
-        let direction = DirectionText(self.direction);
-        match self.fault {
-            Some(fault) => {
-                let fault = WireFaultJson(fault);
-                write!(f, "{{\"end\":\"{direction}\",\"fault\":{fault}}}")
-            }
-            None => write!(f, "{{\"end\":\"{direction}\",\"rest\":{}}}", self.rest),
-        }
-    }
 }
 
 /// Why an interface is refused: `{"refused":{"number":NUMBER,"name":NAME}}`.

@@ -1,13 +1,12 @@
-//! The lines that giopctl writes, without their newlines: of messages, of the entries of calls, of
-//! references and of what a trace tells, in words and as JSON. Each is pinned to a text in
-//! specs/Lines.antt, BodyLines.antt, TableLines.antt, ConvertLines.antt or TraceLines.antt, and
-//! docs/giopctl.md shows it; or, as JSON, in specs/JsonLines.antt, DumpJson.antt, TableJson.antt,
-//! SessionJson.antt or ConvertJson.antt, and docs/FORMATS.md shows it: change all three.
+//! The lines that giopctl writes, without their newlines: of messages, of references and of parts
+//! that other lines have, in words and as JSON. Each is pinned to a text in specs/Lines.antt,
+//! BodyLines.antt, ConvertLines.antt or TraceLines.antt, and docs/giopctl.md shows it; or, as JSON,
+//! in specs/JsonLines.antt, DumpJson.antt or ConvertJson.antt, and docs/FORMATS.md shows it: change
+//! all three. The lines of calls are giop_call_lines'.
 #![tactic(auto)]
 
 mod appending;
 mod body;
-mod call;
 mod cdr_fault;
 mod end;
 mod json;
@@ -15,22 +14,17 @@ mod message;
 mod octets;
 mod reference;
 mod refusal;
+mod traced;
 
 pub use appending::{append_escaped, append_hex, append_id, append_target};
-pub use body::{InsLine, JoinedLine, UndecodedLine, UnjoinedLine};
-pub use call::answered::{AnsweredLine, ConnectionLine, UnsentLine};
-pub use call::client_entry::{ClientEntryLine, CompletionText, ReplyText};
-pub use call::server_entry::{AskedText, RequestFaultText, ServerEntryLine};
-pub use call::traced::{DirectionEndLine, IdText, MinorText, OwnTargetText};
+pub use body::{InsLine, JoinedLine, RequestFaultText, UndecodedLine, UnjoinedLine};
 pub use cdr_fault::CdrFaultText;
 pub use end::{FaultLine, HeadFaultLine, RestLine};
 pub use json::{
-    AnswerJson, AnsweredJson, AskedJson, CdrFaultJson, ClientEntryJson, ConnectionJson,
-    CorbalocJson, DirectionEndJson, EntryJson, FaultJson, HeadFaultJson, HexJson, IdJson, IiopJson,
-    InsJson, IorJson, JoinedJson, KeyJson, LocateReplyJson, LocateRequestJson, MessageJson,
-    OutcomeJson, ProfileJson, RefusalJson, RefusedJson, ReplyJson, RequestFaultJson, RequestJson,
-    RestJson, ServerEntryJson, TargetJson, TextJson, TypeJson, UndecodedJson, UnjoinedJson,
-    UnsentJson, WireFaultJson,
+    CdrFaultJson, CorbalocJson, FaultJson, HeadFaultJson, HexJson, IdJson, IiopJson, InsJson,
+    IorJson, JoinedJson, KeyJson, LocateReplyJson, LocateRequestJson, MessageJson, ProfileJson,
+    RefusalJson, RefusedJson, ReplyJson, RequestFaultJson, RequestJson, RestJson, TargetJson,
+    TextJson, TypeJson, UndecodedJson, UnjoinedJson, WireFaultJson,
 };
 pub use message::MessageLine;
 pub use message::locate::{LocateReplyLine, LocateRequestLine};
@@ -39,3 +33,4 @@ pub use message::request::RequestLine;
 pub use octets::{EscapedText, HexText};
 pub use reference::{IiopLine, ProfileLine, TypeLine};
 pub use refusal::RefusalLine;
+pub use traced::{IdText, MinorText, OwnTargetText};

@@ -1,9 +1,9 @@
-//! giopctl's commands that read files alone, `dump`, `trace` and `convert`, as a program of their
-//! own. It stands on no end of a connection, so it is built in half the time: ./giopctl runs it
-//! until giopctl itself is built.
+//! giopctl's commands `dump` and `convert` as a program of their own. It stands on no calls and no
+//! end of a connection, so it is built in less than half the time: ./giopctl runs it until giopctl
+//! itself is built.
 #![tactic(auto)]
 
-use giop_files::{convert, dump, report, trace};
+use giop_files::{convert, dump, report};
 use giop_show::status::Status;
 use giop_words::{Task, task_of};
 use std::process::ExitCode;
@@ -20,7 +20,6 @@ fn run(rt: &HostRuntime) -> Status {
     };
     match task_of(rt.alloc(), words.as_slice()) {
         Ok(Some(Task::Dump(words))) => dump::dump(rt, words),
-        Ok(Some(Task::Trace(words))) => trace::trace(rt, &words),
         Ok(Some(Task::Convert { file, kind })) => convert::convert(rt, file, kind),
         Ok(_) => other(rt),
         Err(error) => report::usage_status(rt, &error),
@@ -29,7 +28,7 @@ fn run(rt: &HostRuntime) -> Status {
 
 // That another command is asked for.
 fn other(rt: &HostRuntime) -> Status {
-    let _ = eprintln!(rt; "giopctl: this program has dump, trace and convert alone");
+    let _ = eprintln!(rt; "giopctl: this program has dump and convert alone");
     Status::Usage
 }
 

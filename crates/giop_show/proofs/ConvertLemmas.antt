@@ -28,9 +28,9 @@ use Rattle.giop_types.specs.Values.Fits.{are_octets, fits, is_unsigned}
 use Rattle.giop_types.specs.Values.Tree.{Tree}
 use Rattle.giop_types.proofs.Coding.SpelledFits.{shape_fits}
 use Rattle.giop_types.proofs.Values.FitLemmas.{all_octets}
-use Rattle.giop_show.specs.declared.convert.described.Way.{Way}
+use Rattle.giop_forms.specs.declared.way.Way.{Way}
 use Rattle.giop_show.specs.Convert.{unended, Tells, comma_in, profile_in, profiles_in, ior_refusal, ConvertsIor, RefusedForm, ConvertsEncode, ConvertsValue, reader_of}
-use Rattle.giop_show.specs.declared.form.LineForm.{LineForm}
+use Rattle.giop_forms.specs.declared.line_form.LineForm.{LineForm}
 use Rattle.giop_show.specs.Dump.Text.{ended}
 use Rattle.giop_show.specs.Forms.{refused_in}
 use Rattle.giop_show.proofs.DumpLemmas.{Appends-append}

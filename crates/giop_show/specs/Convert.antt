@@ -37,14 +37,14 @@ use Rattle.giop_types.specs.Values.Tree.{Tree}
 use Rattle.giop_types.specs.Coding.Written.{value_out}
 use Rattle.giop_lines.specs.declared.refusal.RefusalLine.{RefusalLine}
 use Rattle.giop_lines.specs.declared.refusal.RefusalLine.TheVariants as refusal
-use Rattle.giop_show.specs.declared.convert.described.Way.{Way}
-use Rattle.giop_show.specs.declared.convert.described.Way.TheVariants.{Encode, Decode}
+use Rattle.giop_forms.specs.declared.way.Way.{Way}
+use Rattle.giop_forms.specs.declared.way.Way.TheVariants.{Encode, Decode}
 use Rattle.giop_show.specs.declared.status.Status.{Status}
 use Rattle.giop_show.specs.declared.status.Status.TheVariants.{Done, Refused}
 use Rattle.giop_lines.specs.ConvertJson.{corbaloc_json, iiop_json, ior_json, profile_json, type_json}
 use Rattle.giop_lines.specs.ConvertLines.{refusal_line, type_line, iiop_line, profile_line}
-use Rattle.giop_show.specs.declared.form.LineForm.{LineForm}
-use Rattle.giop_show.specs.declared.form.LineForm.TheVariants.{Text, Json}
+use Rattle.giop_forms.specs.declared.line_form.LineForm.{LineForm}
+use Rattle.giop_forms.specs.declared.line_form.LineForm.TheVariants.{Text, Json}
 use Rattle.giop_show.specs.Dump.Text.{ended}
 use Rattle.giop_show.specs.Forms.{line_in, part_in, refused_in}
 

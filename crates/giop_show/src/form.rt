@@ -1,5 +1,5 @@
-//! The two forms in which a command tells what it read: lines of text, or lines of JSON. What
-//! stands in each is specs/Forms.antt: change both.
+//! What a command tells, in a form: lines of text, or lines of JSON. What stands in each is
+//! specs/Forms.antt: change both.
 ghost use Rattle.std.specs.Prelude.{◌≡◌, IfOk, IfSome, OnOk};
 ghost use Rattle.std.specs.Io.KnownBytes.{Appends};
 ghost use Rattle.std.specs.String.{string_bytes};
@@ -8,34 +8,11 @@ ghost use Rattle.giop_show.specs.Forms.{closed_in, ended_in, line_in, part_in, r
 
 use crate::failure::Failure;
 use crate::status::Status;
+use giop_forms::LineForm;
 use giop_lines::{RefusalJson, RefusalLine};
-use giop_types::NumberForm;
 use std::alloc::{AllocError, Global};
 use std::fmt::Display;
 use std::io::Write;
-
-/// The form of a line, and that of the whole numbers in the values of one.
-#[derive(Clone, Copy, Debug, PartialEq, Eq)]
-pub enum LineForm {
-    /// Words (docs/giopctl.md).
-    Text(NumberForm),
-    /// An object of JSON (docs/FORMATS.md).
-    Json(NumberForm),
-}
-
-impl LineForm {
-    ghost use Rattle.giop_show.specs.Forms.{numbers_of};
-
-    /// The form of whole numbers in values.
-    pub fn numbers(self) -> NumberForm
-        ensures { result ≡ numbers_of self }
-    {
-        match self {
-            LineForm::Text(numbers) => numbers,
-            LineForm::Json(numbers) => numbers,
-        }
-    }
-}
 
 /// Writes a part of what is told: a line of text, or members of the JSON line.
 pub fn write_part<T: Display + Drop, J: Display + Drop, W: Write>(

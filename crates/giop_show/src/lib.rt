@@ -11,10 +11,10 @@ pub mod form;
 pub mod pieces;
 pub mod status;
 
-pub use convert::described::{Way, convert_value};
+pub use convert::described::convert_value;
 pub use convert::reference::{convert_corbaloc, convert_ior};
 pub use convert::value::form_refusal;
 pub use dump::teller::Teller;
 pub use dump::text::dump_text;
 pub use dump::{BehindFault, MESSAGE_LIMIT, dump_by, dump_octets, dump_stream};
-pub use form::{LineForm, refuse_in};
+pub use form::refuse_in;

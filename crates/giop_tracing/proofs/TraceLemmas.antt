@@ -13,8 +13,8 @@ use Rattle.giop_trace.specs.declared.direction.Direction.TheVariants.{Client, Se
 use Rattle.giop_trace.specs.declared.flow.Flow.{Flow}
 use Rattle.giop_trace.specs.Observing.{heard as heard_of, is_early, left}
 use Rattle.giop_types.specs.declared.json.interface.Interface.{Interface}
-use Rattle.giop_show.specs.declared.form.LineForm.{LineForm}
-use Rattle.giop_show.specs.declared.form.LineForm.TheVariants as form
+use Rattle.giop_forms.specs.declared.line_form.LineForm.{LineForm}
+use Rattle.giop_forms.specs.declared.line_form.LineForm.TheVariants as form
 use Rattle.giop_show.specs.Dump.Text.{ended}
 use Rattle.giop_tracing.specs.Trace.Incoming.{EndsWith, IsLast, Passes, unheard}
 use Rattle.giop_tracing.specs.Trace.Outcome.{direction_end_in}

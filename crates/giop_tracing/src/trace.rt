@@ -20,8 +20,8 @@ mod usual_line;
 
 use crate::trace::call_line::{Unanswered, write_call};
 use crate::trace::incoming::{Brought, Incoming};
+use giop_forms::LineForm;
 use giop_show::failure::Failure;
-use giop_show::form::LineForm;
 use giop_show::status::Status;
 use giop_trace::{Direction, Flow, Observer};
 use giop_types::Interface;

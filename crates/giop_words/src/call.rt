@@ -16,7 +16,7 @@ use crate::words::session::{
     timeout_of,
 };
 use clap::ArgMatches;
-use giop_show::LineForm;
+use giop_forms::LineForm;
 use std::alloc::{AllocError, Global};
 
 /// What `call` is asked for.

@@ -10,7 +10,7 @@ use crate::words::form::{JSON, JSON_NUMBERS, lines_of};
 use crate::words::limit::{CALLS_LIMIT, GATHERED_LIMIT, LimitWords, MESSAGE_LIMIT, limits_of};
 use crate::words::row::{CommandRow, Needed, Place, Row, Takes};
 use clap::ArgMatches;
-use giop_show::LineForm;
+use giop_forms::LineForm;
 
 /// What `check` is asked for.
 #[derive(Debug, Drop)]

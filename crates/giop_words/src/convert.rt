@@ -11,7 +11,7 @@ use crate::words::form::{JSON, JSON_NUMBERS, numbers_of, plain_lines_of};
 use crate::words::row::{CommandRow, Needed, Place, Row, Takes, command_of};
 use clap::{ArgMatches, Command};
 use giop_cdr::Order;
-use giop_show::{LineForm, Way};
+use giop_forms::{LineForm, Way};
 use std::alloc::{AllocError, Global};
 
 /// The kinds of `convert`.

@@ -11,7 +11,7 @@ use crate::words::form::{JSON, JSON_NUMBERS, lines_of};
 use crate::words::limit::{GATHERED_LIMIT, MESSAGE_LIMIT, gathered_limit_of, message_limit_of};
 use crate::words::row::{CommandRow, Needed, Place, Row, Takes};
 use clap::ArgMatches;
-use giop_show::LineForm;
+use giop_forms::LineForm;
 
 /// What `dump` is asked for.
 #[derive(Clone, Copy, Debug)]

@@ -15,7 +15,7 @@ use crate::words::number::short_number_of;
 use crate::words::row::{CommandRow, Needed, Place, Row, Takes, command_of};
 use crate::words::session::{LITTLE, PIECE, STREAM, SendingWords, Telling, sending_of, telling_of};
 use clap::{ArgGroup, ArgMatches, Command};
-use giop_show::LineForm;
+use giop_forms::LineForm;
 use std::alloc::{AllocError, Global};
 
 /// An object key, as it stands on the command line.

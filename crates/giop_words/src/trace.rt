@@ -11,7 +11,7 @@ use crate::words::form::{JSON, JSON_NUMBERS, lines_of};
 use crate::words::limit::{MESSAGE_LIMIT, message_limit_of};
 use crate::words::row::{CommandRow, Needed, Place, Row, Takes};
 use clap::ArgMatches;
-use giop_show::LineForm;
+use giop_forms::LineForm;
 
 /// What `trace` is asked for.
 #[derive(Debug, Drop)]

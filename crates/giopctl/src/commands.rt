@@ -1,7 +1,6 @@
-//! A file and a folder for each command that holds a connection, and for `check`, which holds an
-//! end: the files, connections and standard output that it runs over. Its words are giop_words',
-//! and what it prints is that of giop_commands, over any reader and writer. The others are
-//! giop_files'.
+//! A file and a folder for each command but `dump` and `convert`, which are giop_files': the files,
+//! connections and standard output that it runs over. Its words are giop_words', and what it prints
+//! is that of giop_commands and the crates beside it, over any reader and writer.
 
 pub mod call;
 pub mod check;
@@ -10,3 +9,4 @@ mod object;
 pub mod ping;
 mod sending;
 pub mod serve;
+pub mod trace;

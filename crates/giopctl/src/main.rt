@@ -5,8 +5,8 @@
 mod commands;
 mod connection;
 
-use commands::{call, check, locate, ping, serve};
-use giop_files::{convert, dump, report, trace};
+use commands::{call, check, locate, ping, serve, trace};
+use giop_files::{convert, dump, report};
 use giop_show::status::Status;
 use giop_words::{Task, task_of};
 use std::process::ExitCode;

@@ -6,7 +6,7 @@ ghost use Rattle.std.specs.List.{flat_map};
 ghost use Rattle.giop_ids.specs.ById.{ById};
 ghost use Rattle.giop_tracing.specs.Trace.Order.{IsOrder};
 ghost use Rattle.giop_tracing.specs.Trace.Text.{both_turn, heard_lines};
-ghost use Rattle.giop_show.specs.declared.form.LineForm.{LineForm};
+ghost use Rattle.giop_forms.specs.declared.line_form.LineForm.{LineForm};
 ghost use Rattle.giop_trace.specs.Observing.{Brought, left_of_all, told_of_all};
 ghost use Rattle.giop_trace.specs.declared.flow.Flow.{Flow};
 ghost use Rattle.giop_types.specs.declared.json.interface.Interface.{Interface};

@@ -7,7 +7,7 @@ use Rattle.giop_end.specs.declared.session_fault.SessionFault.{SessionFault}
 use Rattle.giop_end.specs.Pumping.{Between, between}
 use Rattle.giop_calling.specs.declared.call.calls.CallLine.{CallLine}
 use Rattle.giop_show.specs.declared.failure.Failure.{Failure}
-use Rattle.giop_show.specs.declared.form.LineForm.{LineForm}
+use Rattle.giop_forms.specs.declared.line_form.LineForm.{LineForm}
 use Rattle.giop_commands.specs.declared.session.ending.Ending.{Ending}
 use Rattle.giop_calling.specs.Call.Feeding.{Fed, FedEnd, FedEnds, FedStreams, FedTurn, Feeds, fed, with_calls}
 use Rattle.giop_calling.specs.Call.Lines.{Feed}

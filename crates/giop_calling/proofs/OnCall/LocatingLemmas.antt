@@ -6,7 +6,7 @@ use Rattle.giop_msg.specs.Stream.{Unread}
 use Rattle.giop_end.specs.declared.session_fault.SessionFault.{SessionFault}
 use Rattle.giop_end.specs.Pumping.{between}
 use Rattle.giop_show.specs.declared.failure.Failure.{Failure}
-use Rattle.giop_show.specs.declared.form.LineForm.{LineForm}
+use Rattle.giop_forms.specs.declared.line_form.LineForm.{LineForm}
 use Rattle.giop_commands.specs.declared.session.ending.Ending.{Ending}
 use Rattle.giop_commands.specs.Session.Acts.{Outbox}
 use Rattle.giop_calling.specs.Call.Calling.{Asked, ClientCalls, Talks, begun, new_box}

@@ -12,7 +12,7 @@ use Rattle.giop_end.specs.Pumping.{Between, between}
 use Rattle.giop_calling.specs.declared.call.calls.CallLine.{CallLine}
 use Rattle.giop_calling.specs.declared.call.feed.LineFeed.{LineFeed}
 use Rattle.giop_calling.specs.declared.call.given.Calling.{Calling}
-use Rattle.giop_show.specs.declared.form.LineForm.{LineForm}
+use Rattle.giop_forms.specs.declared.line_form.LineForm.{LineForm}
 use Rattle.giop_commands.specs.declared.session.ending.Ending.{Ending}
 use Rattle.giop_calling.specs.Call.Lines.{Feed, ReadsOn, feed_at}
 use Rattle.giop_calling.specs.Call.Streaming.{CourseEnds, TurnTells, all_done, course, left_text, new_client, stream_status}

@@ -16,7 +16,7 @@ use Rattle.giop_end.specs.Pumping.{Between}
 use Rattle.giop_calling.specs.declared.call.calls.CallLine.{CallLine}
 use Rattle.giop_calling.specs.declared.call.following.Forward.{Forward}
 use Rattle.giop_calling.specs.declared.call.given.Calling.{Calling}
-use Rattle.giop_show.specs.declared.form.LineForm.{LineForm}
+use Rattle.giop_forms.specs.declared.line_form.LineForm.{LineForm}
 use Rattle.giop_commands.specs.declared.session.target.Endpoint.{Endpoint}
 use Rattle.giop_commands.specs.Session.Acts.{Outbox}
 use Rattle.giop_calling.specs.Call.Streaming.{box_of, with_box}

@@ -19,7 +19,7 @@ use Rattle.giop_table.specs.Sending.{entry_of}
 use Rattle.giop_end.specs.Hearing.Heard.{in_call}
 use Rattle.giop_end.specs.Pumping.{between}
 use Rattle.giop_calling.specs.declared.call.given.Calling.{Calling}
-use Rattle.giop_show.specs.declared.form.LineForm.{LineForm}
+use Rattle.giop_forms.specs.declared.line_form.LineForm.{LineForm}
 use Rattle.giop_commands.specs.declared.session.ending.Ending.{Ending}
 use Rattle.giop_show.specs.declared.status.Status.{Status}
 use Rattle.giop_show.specs.declared.status.Status.TheVariants.{Done}

@@ -16,13 +16,13 @@ use Rattle.giop_end.specs.Ends.Begun.{no_calls}
 use Rattle.giop_table.specs.Sending.{entry_of}
 use Rattle.giop_end.specs.Ends.View.{end_between}
 use Rattle.giop_end.specs.Pumping.{Between, between}
-use Rattle.giop_lines.specs.SessionJson.{unsent_json}
-use Rattle.giop_lines.specs.TableLines.{unsent_line}
+use Rattle.giop_call_lines.specs.SessionJson.{unsent_json}
+use Rattle.giop_call_lines.specs.TableLines.{unsent_line}
 use Rattle.giop_calling.specs.declared.call.calls.CallLine.{CallLine}
 use Rattle.giop_calling.specs.declared.call.given.Calling.{Calling}
 use Rattle.giop_commands.specs.declared.session.SessionTurn.{SessionTurn}
 use Rattle.giop_commands.specs.declared.session.SessionTurn.TheVariants.{Ends, GoesOn as goes_on}
-use Rattle.giop_show.specs.declared.form.LineForm.{LineForm}
+use Rattle.giop_forms.specs.declared.line_form.LineForm.{LineForm}
 use Rattle.giop_show.specs.declared.status.Status.{Status}
 use Rattle.giop_show.specs.declared.status.Status.TheVariants.{Done}
 use Rattle.giop_commands.specs.Session.Acts.{Outbox, outbox}

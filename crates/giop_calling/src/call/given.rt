@@ -3,8 +3,8 @@ ghost use Rattle.giop_end.specs.Acts.Form.{IsForm};
 ghost use Rattle.giop_commands.specs.Check.{AreLimits};
 
 use giop_end::{Form, Limits};
+use giop_forms::LineForm;
 use giop_msg::Version;
-use giop_show::form::LineForm;
 use giop_types::Interface;
 
 /// Whose operations are called, how, within which limits, and how the calls are told.

@@ -7,10 +7,11 @@ use Rattle.giop_calls.specs.declared.server.entry.ServerEntry.{ServerEntry}
 use Rattle.giop_calls.specs.declared.server.entry.ServerEntry.TheVariants as server
 use Rattle.giop_calls.specs.declared.server.question.Question.{Question}
 use Rattle.giop_calls.specs.declared.server.question.Question.TheVariants as question
-use Rattle.giop_lines.specs.TableLines.{answered_line}
-use Rattle.giop_show.specs.declared.form.LineForm.{LineForm}
+use Rattle.giop_call_lines.specs.TableLines.{answered_line}
+use Rattle.giop_forms.specs.declared.line_form.LineForm.{LineForm}
 use Rattle.giop_show.specs.Bodies.{brought_by, request_ins}
-use Rattle.giop_show.specs.Forms.{line_in, numbers_of}
+use Rattle.giop_forms.specs.Forms.{numbers_of}
+use Rattle.giop_show.specs.Forms.{line_in}
 use Rattle.giop_commands.specs.Session.Tables.Shown.{answered_object, question_shown}
 use Rattle.giop_commands.specs.Session.Tables.Table.{server_entry_in}
 

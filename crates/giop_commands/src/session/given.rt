@@ -1,7 +1,7 @@
 //! What sessions take: what they stand between, and how their calls are told. What passes is
 //! `Traffic` in specs/Session/Traffic.antt.
 
-use giop_show::form::LineForm;
+use giop_forms::LineForm;
 use giop_types::Interface;
 
 /// What a session reads from, writes to, and is told on.

@@ -15,9 +15,9 @@ use crate::session::given::Showing;
 use crate::session::table::Tabled;
 use crate::session::untold::Untold;
 use giop_end::{End, Hearing};
+use giop_forms::LineForm;
 use giop_mux::CallRule;
 use giop_show::failure::Failure;
-use giop_show::form::LineForm;
 use giop_types::Interface;
 use std::alloc::{AllocError, Global};
 use std::io::Write;
@@ -27,7 +27,7 @@ pub trait Streamed: Tabled {
     ghost use Rattle.std.specs.Prelude.{◌≡◌, ℕ, List, IfOk};
     ghost use Rattle.std.specs.String.{string_bytes};
     ghost use Rattle.giop_types.specs.declared.json.interface.Interface.{Interface};
-    ghost use Rattle.giop_show.specs.declared.form.LineForm.{LineForm};
+    ghost use Rattle.giop_forms.specs.declared.line_form.LineForm.{LineForm};
 
     ghost told: { LineForm → Interface → ℕ → Self.Entry → List ℕ };
 

@@ -9,9 +9,9 @@ pub mod server;
 pub mod shown;
 
 use giop_end::{End, Hearing};
+use giop_forms::LineForm;
 use giop_mux::CallRule;
 use giop_show::failure::Failure;
-use giop_show::form::LineForm;
 use giop_types::Interface;
 use std::alloc::{AllocError, Global};
 use std::io::Write;
@@ -21,7 +21,7 @@ pub trait Tabled: Hearing {
     ghost use Rattle.std.specs.Prelude.{◌≡◌, ℕ, List, IfOk};
     ghost use Rattle.std.specs.String.{string_bytes};
     ghost use Rattle.giop_types.specs.declared.json.interface.Interface.{Interface};
-    ghost use Rattle.giop_show.specs.declared.form.LineForm.{LineForm};
+    ghost use Rattle.giop_forms.specs.declared.line_form.LineForm.{LineForm};
 
     ghost line: { LineForm → Interface → ℕ → Self.Entry → List ℕ };
 

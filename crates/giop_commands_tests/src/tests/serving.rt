@@ -3,11 +3,11 @@
 use crate::tests::session_files::interface;
 use giop_commands::session::given::Pipes;
 use giop_end::{Form, Limits};
+use giop_forms::LineForm;
 use giop_serving::serve::answers::{Answers, answers_from_json};
 use giop_serving::serve::given::{Sending, ServedObject, Serving};
 use giop_serving::serve::in_turn::Passed;
 use giop_serving::serve_session;
-use giop_show::form::LineForm;
 use giop_show::status::Status;
 use giop_types::{Interface, NumberForm};
 use std::alloc::Global;

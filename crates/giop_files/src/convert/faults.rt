@@ -2,7 +2,7 @@
 
 use crate::places;
 use crate::report::texts;
-use giop_show::Way;
+use giop_forms::Way;
 use giop_show::convert::unended;
 use giop_types::{
     CheckedDesc, IorTextFault, desc_from_json, ior_octets_from_text, parse_json, value_from_json,

@@ -7,7 +7,7 @@ ghost use Rattle.giop_files.specs.Report.{IsFailed, IsRefused};
 use crate::files::interface_text::InterfaceText;
 use crate::report::refusals::refuse_interface;
 use crate::{files, report};
-use giop_show::LineForm;
+use giop_forms::LineForm;
 use giop_show::failure::Failure;
 use giop_show::status::Status;
 use giop_types::{FormFault, Interface};

@@ -13,7 +13,7 @@ use Rattle.giop_calls.specs.ServerTable.{is_closed}
 use Rattle.giop_end.specs.Pumping.{Between, between}
 use Rattle.giop_serving.specs.declared.serve.in_turn.AnswerName.{AnswerName}
 use Rattle.giop_show.specs.declared.failure.Failure.{Failure}
-use Rattle.giop_show.specs.declared.form.LineForm.{LineForm}
+use Rattle.giop_forms.specs.declared.line_form.LineForm.{LineForm}
 use Rattle.giop_commands.specs.declared.session.ending.Ending.{Ending}
 use Rattle.giop_show.specs.Dump.Text.{ended}
 use Rattle.giop_commands.specs.Session.Endings.{Ends}

@@ -4,7 +4,7 @@ use Rattle.giop_calls.specs.ServerTable as server
 use Rattle.giop_serving.specs.declared.serve.given.Serving.{Serving}
 use Rattle.giop_serving.specs.declared.serve.in_turn.AnswerName.{AnswerName}
 use Rattle.giop_serving.specs.declared.serve.in_turn.Passed.{Passed}
-use Rattle.giop_show.specs.declared.form.LineForm.{LineForm}
+use Rattle.giop_forms.specs.declared.line_form.LineForm.{LineForm}
 use Rattle.giop_commands.specs.declared.session.ending.Ending.{Ending}
 use Rattle.giop_serving.specs.Serve.Serving.{Served, served_of}
 use Rattle.giop_serving.specs.Serve.Printed.{IsServed}

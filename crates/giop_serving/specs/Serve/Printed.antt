@@ -8,12 +8,12 @@ use Rattle.giop_calls.specs.declared.server.entry.ServerEntry.{ServerEntry}
 use Rattle.giop_end.specs.declared.session_fault.SessionFault.{SessionFault}
 use Rattle.giop_table.specs.declared.slot.Slot.{Slot}
 use Rattle.giop_end.specs.Pumping.{between}
-use Rattle.giop_lines.specs.SessionJson.{connection_json}
-use Rattle.giop_lines.specs.TableLines.{connection_line}
+use Rattle.giop_call_lines.specs.SessionJson.{connection_json}
+use Rattle.giop_call_lines.specs.TableLines.{connection_line}
 use Rattle.giop_serving.specs.declared.serve.given.Serving.{Serving}
 use Rattle.giop_serving.specs.declared.serve.in_turn.AnswerName.{AnswerName}
 use Rattle.giop_serving.specs.declared.serve.in_turn.Passed.{Passed}
-use Rattle.giop_show.specs.declared.form.LineForm.{LineForm}
+use Rattle.giop_forms.specs.declared.line_form.LineForm.{LineForm}
 use Rattle.giop_show.specs.declared.status.Status.{Status}
 use Rattle.giop_show.specs.declared.status.Status.TheVariants.{Done, InputOutput, Memory}
 use Rattle.giop_commands.specs.Check.{fault_status}

@@ -12,7 +12,7 @@ use Rattle.giop_calls.specs.ServerTable.{is_closed}
 use Rattle.giop_serving.specs.declared.serve.given.Serving.{Serving}
 use Rattle.giop_serving.specs.declared.serve.in_turn.AnswerName.{AnswerName}
 use Rattle.giop_serving.specs.declared.serve.in_turn.Passed.{Passed}
-use Rattle.giop_show.specs.declared.form.LineForm.{LineForm}
+use Rattle.giop_forms.specs.declared.line_form.LineForm.{LineForm}
 use Rattle.giop_show.specs.declared.status.Status.{Status}
 use Rattle.giop_show.specs.Dump.Text.{ended}
 use Rattle.giop_commands.specs.Session.Faults.Lines.{last_in}

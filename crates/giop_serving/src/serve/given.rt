@@ -4,7 +4,7 @@ ghost use Rattle.giop_commands.specs.Check.{AreLimits};
 
 use crate::serve::answers::Answers;
 use giop_end::{Form, Limits};
-use giop_show::form::LineForm;
+use giop_forms::LineForm;
 use giop_types::Interface;
 
 /// An object that is served.

@@ -21,9 +21,10 @@ use giop_commands::session::given::{Pipes, Showing};
 use giop_commands::session::streaming::{tell_left, tell_over};
 use giop_commands::session::{SessionTurn, TURNS, told, write_session_fault};
 use giop_end::{ServerEnd, SessionFault};
+use giop_forms::LineForm;
 use giop_lines::{RestJson, RestLine};
 use giop_show::failure::Failure;
-use giop_show::form::{LineForm, write_line};
+use giop_show::form::write_line;
 use std::alloc::Global;
 use std::io::{Read, Write};
 

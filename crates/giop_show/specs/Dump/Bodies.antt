@@ -17,7 +17,7 @@ use Rattle.giop_types.specs.JsonForms.InterfaceFromJson.{interface_told, interfa
 use Rattle.giop_lines.specs.DumpJson.{ins_json, joined_json, undecoded_json, unjoined_json}
 use Rattle.giop_lines.specs.BodyLines.{ins_line, joined_line, undecoded_line, unjoined_line}
 use Rattle.giop_lines.specs.declared.refusal.RefusalLine.TheVariants.{Form}
-use Rattle.giop_show.specs.declared.form.LineForm.{LineForm}
+use Rattle.giop_forms.specs.declared.line_form.LineForm.{LineForm}
 use Rattle.giop_show.specs.declared.dump.joining.Piece.{Piece}
 use Rattle.giop_show.specs.declared.dump.joining.Piece.TheVariants.{Joined, Unjoined, Untold}
 use Rattle.giop_show.specs.declared.dump.teller.Teller.{Teller}
@@ -26,7 +26,8 @@ use Rattle.giop_show.specs.declared.status.Status.TheVariants.{Refused}
 use Rattle.giop_show.specs.Bodies.{request_ins}
 use Rattle.giop_show.specs.Dump.Text.{DumpsKnown, Telling, ended}
 use Rattle.giop_show.specs.Dump.Heads.{fault_in, message_text, rest_in, second_text}
-use Rattle.giop_show.specs.Forms.{closed_in, ended_in, numbers_of, part_in, refused_in}
+use Rattle.giop_forms.specs.Forms.{numbers_of}
+use Rattle.giop_show.specs.Forms.{closed_in, ended_in, part_in, refused_in}
 use Rattle.giop_show.specs.Dump.Joining.{lists_after, told_piece}
 
 -- why the body of a Request isn't read; a fault of its head is told with the head

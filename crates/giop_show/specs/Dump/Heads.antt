@@ -13,7 +13,7 @@ use Rattle.giop_msg.specs.RequestHead.{Head, request_head}
 use Rattle.giop_msg.specs.RequestId.{request_id_of}
 use Rattle.giop_lines.specs.DumpJson as json
 use Rattle.giop_lines.specs.Lines.{message_line, request_line, reply_line, locate_request_line, locate_reply_line, head_fault_line, fault_line, rest_line}
-use Rattle.giop_show.specs.declared.form.LineForm.{LineForm}
+use Rattle.giop_forms.specs.declared.line_form.LineForm.{LineForm}
 use Rattle.giop_show.specs.Dump.Text.{Telling}
 use Rattle.giop_show.specs.Forms.{ended_in, line_in, part_in}
 

@@ -8,18 +8,10 @@ use crate::convert::value::{convert_decode, convert_encode, form_refusal};
 use crate::failure::Failure;
 use crate::status::Status;
 use giop_cdr::Order;
-use giop_types::{NumberForm, desc_from_json};
+use giop_forms::Way;
+use giop_types::desc_from_json;
 use std::alloc::Global;
 use std::io::Write;
-
-/// Which way a value is converted, between JSON and octets.
-#[derive(Clone, Copy, Debug, PartialEq, Eq)]
-pub enum Way {
-    /// From JSON to octets.
-    Encode,
-    /// From octets to JSON, whole numbers in a form.
-    Decode(NumberForm),
-}
 
 /// Converts a file's octets by a description in JSON, as `convert_encode` or `convert_decode` says.
 /// Where the text is no description, the line of its fault is written, whatever the file holds;

@@ -12,9 +12,10 @@ ghost use Rattle.giop_lines.specs.ConvertJson.{ior_json};
 
 use crate::convert::{unended, write_line};
 use crate::failure::Failure;
-use crate::form::{LineForm, refuse_in, write_part};
+use crate::form::{refuse_in, write_part};
 use crate::status::Status;
 use giop_cdr::{CdrKind, EncodeFault};
+use giop_forms::LineForm;
 use giop_ior::{
     Corbaloc, CorbalocKind, Ior, IorTextFault, TaggedProfile, corbaloc_from_text, corbaloc_to_text,
     iiop_view, ior_from_text, ior_to_text,

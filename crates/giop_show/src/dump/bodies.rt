@@ -3,15 +3,16 @@ ghost use Rattle.std.specs.Prelude.{◌≡◌, ◌≤◌, ◌^◌, length, OnOk}
 ghost use Rattle.std.specs.Io.KnownBytes.{Appends};
 ghost use Rattle.giop_msg.specs.Messages.RequestAnswer.{IsWholeWant};
 ghost use Rattle.giop_show.specs.Bodies.{request_ins};
-ghost use Rattle.giop_show.specs.Forms.{numbers_of};
+ghost use Rattle.giop_forms.specs.Forms.{numbers_of};
 ghost use Rattle.giop_show.specs.Dump.Bodies.{body_text, ins_in, joined_text, own_text, piece_text, undecoded_text};
 
 use crate::bodies::request_ins;
 use crate::dump::heads::write_second;
 use crate::dump::joining::Piece;
 use crate::failure::Failure;
-use crate::form::{LineForm, write_closed, write_part};
+use crate::form::{write_closed, write_part};
 use giop_cdr::{CdrKind, SliceOctets};
+use giop_forms::LineForm;
 use giop_lines::{
     InsJson, InsLine, JoinedJson, JoinedLine, UndecodedJson, UndecodedLine, UnjoinedJson,
     UnjoinedLine,

@@ -5,8 +5,9 @@ ghost use Rattle.std.specs.Io.KnownBytes.{Appends};
 ghost use Rattle.giop_show.specs.Dump.Heads.{end_of, head_fault_in, locate_reply_head_of, locate_reply_text, locate_request_of, locate_request_text, reply_head_of, reply_text, request_head_of, request_text, second_text};
 
 use crate::failure::Failure;
-use crate::form::{LineForm, write_part};
+use crate::form::write_part;
 use giop_cdr::{CdrFault, SliceOctets};
+use giop_forms::LineForm;
 use giop_lines::{
     HeadFaultJson, HeadFaultLine, LocateReplyJson, LocateReplyLine, LocateRequestJson,
     LocateRequestLine, ReplyJson, ReplyLine, RequestJson, RequestLine,

@@ -8,8 +8,9 @@ ghost use Rattle.giop_show.specs.Status.{IsJudged, header_status};
 
 use crate::dump::heads::write_second;
 use crate::failure::Failure;
-use crate::form::{LineForm, write_line, write_part};
+use crate::form::{write_line, write_part};
 use crate::status::Status;
+use giop_forms::LineForm;
 use giop_lines::{FaultJson, FaultLine, MessageJson, MessageLine, RestJson, RestLine};
 use giop_msg::{Msg, WireFault, WireKind};
 use std::io::Write;

@@ -15,9 +15,9 @@ use Rattle.giop_msg.specs.Locate.{AnyLocateRequest}
 use Rattle.giop_trace.specs.declared.flow.Flow.{Flow}
 use Rattle.giop_trace.specs.Flows.{is_answer}
 use Rattle.giop_lines.specs.JsonLines.{cdr_fault_json, hex_json, id_json, request_fault_json, target_json, text_json}
-use Rattle.giop_lines.specs.SessionJson.{outcome_json}
-use Rattle.giop_show.specs.declared.form.LineForm.{LineForm}
-use Rattle.giop_show.specs.declared.form.LineForm.TheVariants as form
+use Rattle.giop_call_lines.specs.SessionJson.{outcome_json}
+use Rattle.giop_forms.specs.declared.line_form.LineForm.{LineForm}
+use Rattle.giop_forms.specs.declared.line_form.LineForm.TheVariants as form
 use Rattle.giop_tracing.specs.declared.trace.answered.Answered.{Answered}
 use Rattle.giop_tracing.specs.declared.trace.answered.Answered.TheVariants as answered
 use Rattle.giop_tracing.specs.declared.trace.asked.Asked.{Asked}

@@ -18,7 +18,8 @@ use Rattle.giop_trace.specs.declared.flow.Flow.{Flow}
 use Rattle.giop_trace.specs.Flows.{is_answer}
 use Rattle.giop_lines.specs.Lines.{cdr_fault_text, target_text}
 use Rattle.giop_lines.specs.Octets.{escaped_text, hex_text}
-use Rattle.giop_lines.specs.TableLines.{asked_text as operation_text, completion_text, reply_text, request_fault_text}
+use Rattle.giop_call_lines.specs.TableLines.{asked_text as operation_text, completion_text, reply_text}
+use Rattle.giop_lines.specs.BodyLines.{request_fault_text}
 use Rattle.giop_lines.specs.TraceLines.{call_id_text, minor_text}
 use Rattle.giop_tracing.specs.declared.trace.answered.Answered.{Answered}
 use Rattle.giop_tracing.specs.declared.trace.answered.Answered.TheVariants as answered

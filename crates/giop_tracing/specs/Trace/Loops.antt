@@ -10,7 +10,7 @@ use Rattle.giop_trace.specs.declared.direction.Direction.{Direction}
 use Rattle.giop_trace.specs.declared.flow.Flow.{Flow}
 use Rattle.giop_trace.specs.Observing.{heard}
 use Rattle.giop_types.specs.declared.json.interface.Interface.{Interface}
-use Rattle.giop_show.specs.declared.form.LineForm.{LineForm}
+use Rattle.giop_forms.specs.declared.line_form.LineForm.{LineForm}
 use Rattle.giop_tracing.specs.declared.trace.Heard.{Heard}
 use Rattle.giop_tracing.specs.declared.trace.Tracing.{Tracing}
 use Rattle.giop_tracing.specs.declared.trace.incoming.Brought.{Brought}

@@ -2,13 +2,12 @@
 use Rattle.std.specs.Prelude.{ℕ, ◌==◌, List, Option, Some, None, if◌then◌else◌}
 use Rattle.giop_msg.specs.declared.fault.WireFault.{WireFault}
 use Rattle.giop_trace.specs.declared.direction.Direction.{Direction}
-use Rattle.giop_show.specs.declared.form.LineForm.{LineForm}
-use Rattle.giop_show.specs.declared.form.LineForm.TheVariants.{Text, Json}
+use Rattle.giop_forms.specs.declared.line_form.LineForm.{LineForm}
+use Rattle.giop_forms.specs.declared.line_form.LineForm.TheVariants.{Text, Json}
 use Rattle.giop_show.specs.declared.status.Status.{Status}
 use Rattle.giop_show.specs.declared.status.Status.TheVariants.{Done, Refused, LimitPassed}
-use Rattle.giop_lines.specs.JsonLines.{direction_end_json}
 use Rattle.giop_show.specs.Status.{header_status}
-use Rattle.giop_lines.specs.TraceLines.{direction_end}
+use Rattle.giop_call_lines.specs.Direction.{direction_end, direction_end_json}
 
 -- the status of a direction that ends with this fault in a header, or with so many octets left
 abbrev pub direction_status : Option WireFault → ℕ → Status

@@ -16,7 +16,7 @@ use Rattle.giop_types.specs.declared.json.interface.Interface.{Interface}
 use Rattle.giop_types.specs.JsonForms.DescFromJson.{json_in}
 use Rattle.giop_types.specs.JsonForms.InterfaceFromJson.{interface_told, interface_view}
 use Rattle.giop_lines.specs.declared.refusal.RefusalLine.TheVariants.{Form}
-use Rattle.giop_show.specs.declared.form.LineForm.{LineForm}
+use Rattle.giop_forms.specs.declared.line_form.LineForm.{LineForm}
 use Rattle.giop_show.specs.declared.status.Status.{Status}
 use Rattle.giop_show.specs.declared.status.Status.TheVariants.{Refused}
 use Rattle.giop_tracing.specs.declared.trace.Heard.{Heard}

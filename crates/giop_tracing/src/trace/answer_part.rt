@@ -6,8 +6,9 @@ ghost use Rattle.giop_tracing.specs.Trace.Lines.{answer_text, body_text, done_te
 
 use crate::trace::answered::Answered;
 use crate::trace::message_part::write_message;
+use giop_call_lines::{CompletionText, ReplyText};
 use giop_cdr::{CdrFault, OctetList};
-use giop_lines::{CdrFaultText, CompletionText, EscapedText, HexText, MinorText, ReplyText};
+use giop_lines::{CdrFaultText, EscapedText, HexText, MinorText};
 use giop_msg::{Completion, Msg, ReplyBody, Request};
 use giop_show::bodies::brought_by;
 use giop_show::failure::Failure;

@@ -6,10 +6,10 @@ ghost use Rattle.giop_show.specs.Status.{IsJudged};
 ghost use Rattle.giop_tracing.specs.Trace.Incoming.{IsLast, IsNext, unheard};
 ghost use Rattle.giop_tracing.specs.Trace.Outcome.{direction_end_in, direction_status};
 
-use giop_lines::{DirectionEndJson, DirectionEndLine};
+use giop_call_lines::{DirectionEndJson, DirectionEndLine};
+use giop_forms::LineForm;
 use giop_msg::{Framer, Msg, WireFault, WireKind};
 use giop_show::failure::Failure;
-use giop_show::form::LineForm;
 use giop_show::pieces::PieceBuffer;
 use giop_show::status::Status;
 use giop_trace::Direction;

@@ -6,8 +6,9 @@ ghost use Rattle.giop_show.specs.Status.{IsJudged};
 ghost use Rattle.giop_tracing.specs.Trace.Text.{TracesText};
 
 use crate::trace::{Heard, trace_stream};
+use giop_forms::LineForm;
 use giop_show::failure::Failure;
-use giop_show::form::{LineForm, refuse_in};
+use giop_show::form::refuse_in;
 use giop_show::form_refusal;
 use giop_show::status::Status;
 use giop_types::Interface;

@@ -3,7 +3,7 @@
 
 use crate::words::row::{Needed, Place, Row, Takes};
 use clap::ArgMatches;
-use giop_show::LineForm;
+use giop_forms::LineForm;
 use giop_types::NumberForm;
 
 /// The option of a command that may write lines of JSON.

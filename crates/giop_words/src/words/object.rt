@@ -6,7 +6,7 @@ ghost use Rattle.giop_words.specs.Timeout.{IsTimeout};
 use crate::words::form::plain_lines_of;
 use crate::words::session::timeout_of;
 use clap::ArgMatches;
-use giop_show::LineForm;
+use giop_forms::LineForm;
 
 /// What `locate` and `ping` are asked for.
 #[derive(Clone, Copy, Debug)]

@@ -6,7 +6,7 @@ use Rattle.giop_calls.specs.Faults.{fault_number, fault_name}
 use Rattle.giop_end.specs.declared.session_fault.SessionFault.{SessionFault}
 use Rattle.giop_end.specs.declared.session_fault.SessionFault.TheVariants.{Wire, Call, WrongDirection, TooManyCalls, GatherFull, PeerError, Closed, NoMemory, StillOpen, NoId}
 use Rattle.giop_lines.specs.Lines.{cdr_fault_text}
-use Rattle.giop_show.specs.declared.form.LineForm.{LineForm}
+use Rattle.giop_forms.specs.declared.line_form.LineForm.{LineForm}
 use Rattle.giop_commands.specs.Session.Faults.Json.{session_fault_json}
 use Rattle.giop_show.specs.Dump.Heads.{rest_in}
 use Rattle.giop_show.specs.Forms.{line_in}

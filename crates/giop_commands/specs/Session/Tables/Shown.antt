@@ -12,9 +12,9 @@ use Rattle.giop_calls.specs.declared.server.question.Question.{Question}
 use Rattle.giop_calls.specs.declared.server.question.Question.TheVariants as question
 use Rattle.giop_lines.specs.JsonLines.{target_json}
 use Rattle.giop_lines.specs.Lines.{target_text}
-use Rattle.giop_lines.specs.SessionJson.{answer_json}
-use Rattle.giop_lines.specs.TableJson.{entry_json}
-use Rattle.giop_show.specs.declared.form.LineForm.{LineForm}
+use Rattle.giop_call_lines.specs.SessionJson.{answer_json}
+use Rattle.giop_call_lines.specs.TableJson.{entry_json}
+use Rattle.giop_forms.specs.declared.line_form.LineForm.{LineForm}
 use Rattle.giop_show.specs.Forms.{line_in}
 
 -- whether an object offers something of its own, so that objects are told apart

@@ -2,7 +2,7 @@
 use crate::session::streaming::Streamed;
 use crate::session::table::Tabled;
 use giop_calls::{ClientEntry, ClientRule};
-use giop_show::form::LineForm;
+use giop_forms::LineForm;
 use giop_types::Interface;
 use std::alloc::{AllocError, Global};
 

@@ -9,11 +9,12 @@ use crate::session::given::Showing;
 use crate::session::streaming::Streamed;
 use crate::session::table::Tabled;
 use crate::session::table::shown::{AnsweredObject, AnsweredShownLine, question_shown};
+use giop_call_lines::{AnsweredJson, AnsweredLine};
 use giop_calls::{Question, ServerEntry, ServerRule};
-use giop_lines::{AnsweredJson, AnsweredLine};
+use giop_forms::LineForm;
 use giop_msg::ReplyBody;
 use giop_show::bodies::{brought_by, request_ins};
-use giop_show::form::{LineForm, line_text};
+use giop_show::form::line_text;
 use giop_types::{Interface, NumberForm};
 use std::alloc::{AllocError, Global};
 

@@ -5,10 +5,11 @@ ghost use Rattle.std.specs.String.{string_bytes};
 ghost use Rattle.giop_commands.specs.Session.Tables.Bodies.{brought_text};
 
 use crate::session::table::Tabled;
+use giop_call_lines::{ClientEntryJson, ClientEntryLine};
 use giop_calls::{ClientEntry, ClientRule};
-use giop_lines::{ClientEntryJson, ClientEntryLine};
+use giop_forms::LineForm;
 use giop_show::bodies::brought_by;
-use giop_show::form::{LineForm, line_text};
+use giop_show::form::line_text;
 use giop_types::{Interface, NumberForm};
 use std::alloc::{AllocError, Global};
 

@@ -6,10 +6,11 @@ ghost use Rattle.giop_commands.specs.Session.Tables.Bodies.{ins_text};
 
 use crate::session::table::Tabled;
 use crate::session::table::shown::{EntryObject, EntryShownLine, entry_shown};
+use giop_call_lines::ServerEntryLine;
 use giop_calls::{ServerEntry, ServerRule};
-use giop_lines::ServerEntryLine;
+use giop_forms::LineForm;
 use giop_show::bodies::request_ins;
-use giop_show::form::{LineForm, line_text};
+use giop_show::form::line_text;
 use giop_types::{Interface, NumberForm};
 use std::alloc::{AllocError, Global};
 

@@ -4,12 +4,11 @@ ghost use Rattle.std.specs.Prelude.{◌≡◌, IfOk, option_copied};
 ghost use Rattle.std.specs.String.{string_bytes};
 ghost use Rattle.giop_commands.specs.Session.Tables.Shown.{are_told_apart, entry_shown, located_shown, question_shown, target_shown};
 
+use giop_call_lines::{AnswerJson, AnsweredJson, AnsweredLine, EntryJson, ServerEntryLine};
 use giop_calls::{Question, ServerEntry};
-use giop_lines::{
-    AnswerJson, AnsweredJson, AnsweredLine, EntryJson, OwnTargetText, ServerEntryLine, TargetJson,
-};
+use giop_forms::LineForm;
+use giop_lines::{OwnTargetText, TargetJson};
 use giop_msg::Target;
-use giop_show::form::LineForm;
 use giop_types::Interface;
 use std::alloc::{AllocError, Global};
 use std::fmt;
@@ -89,7 +88,7 @@ pub struct EntryShownLine<'a>(pub ServerEntryLine<'a>, pub &'a str);
 
 impl fmt::Display for EntryShownLine<'_> {
     ghost use Rattle.std.specs.Prelude.{Some, ◌++◌};
-    ghost use Rattle.giop_lines.specs.TableLines.{server_line};
+    ghost use Rattle.giop_call_lines.specs.TableLines.{server_line};
 
     ghost output = { λ l. Some (server_line l.0.id l.0.entry.now l.0.ins.now ++ l.1.now) };
 
@@ -130,7 +129,7 @@ pub struct AnsweredShownLine<'a>(pub AnsweredLine<'a>, pub &'a str);
 
 impl fmt::Display for AnsweredShownLine<'_> {
     ghost use Rattle.std.specs.Prelude.{Some, ◌++◌};
-    ghost use Rattle.giop_lines.specs.TableLines.{answered_line};
+    ghost use Rattle.giop_call_lines.specs.TableLines.{answered_line};
 
     ghost output = { λ l. Some (answered_line l.0.id l.0.asked.now l.0.ins.now l.0.body.now
         l.0.brought.now ++ l.1.now) };

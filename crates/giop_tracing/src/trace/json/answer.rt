@@ -6,8 +6,9 @@ ghost use Rattle.giop_tracing.specs.Trace.Json.{answer_json, body_json, done_jso
 
 use crate::trace::answered::Answered;
 use crate::trace::json::{write_message, write_null};
+use giop_call_lines::OutcomeJson;
 use giop_cdr::{CdrFault, OctetList};
-use giop_lines::{CdrFaultJson, HexJson, OutcomeJson, TextJson};
+use giop_lines::{CdrFaultJson, HexJson, TextJson};
 use giop_msg::{Msg, ReplyBody, Request};
 use giop_show::bodies::brought_by;
 use giop_show::failure::Failure;

@@ -17,7 +17,7 @@ use Rattle.giop_end.specs.Hearing.Feeding.{Fed, standing, with_octets}
 use Rattle.giop_end.specs.Pumping.{Feeds, State}
 use Rattle.giop_table.specs.declared.slot.Slot.{Slot}
 use Rattle.giop_table.specs.CallTable.{Held}
-use Rattle.giop_show.specs.declared.form.LineForm.{LineForm}
+use Rattle.giop_forms.specs.declared.line_form.LineForm.{LineForm}
 use Rattle.giop_show.specs.declared.status.Status.{Status}
 use Rattle.giop_show.specs.declared.status.Status.TheVariants.{Done}
 use Rattle.giop_show.specs.Dump.Text.{ended}

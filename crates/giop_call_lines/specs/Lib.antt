@@ -1,0 +1,4 @@
+pub mod TableLines
+pub mod TableJson
+pub mod SessionJson
+pub mod Direction
