@@ -25,9 +25,10 @@ use Rattle.giop_forms.specs.declared.line_form.LineForm.{LineForm}
 use Rattle.giop_forms.specs.declared.line_form.LineForm.TheVariants.{Text}
 use Rattle.giop_commands.specs.Check.{Checks, ChecksKnown, HeardKnown, Hears, IsChecked, last_status, nothing_read, server_hears, strict_status}
 use Rattle.giop_commands.specs.Session.Faults.Lines.{last_in}
-use Rattle.giop_show.specs.Dump.Text.{ended}
+use Rattle.giop_show.specs.Forms.{ended}
 use Rattle.giop_commands.specs.Session.Tables.Table.{server_entry_in, table_text}
-use Rattle.giop_show.proofs.DumpLemmas.{Appends-append, nothing_left}
+use Rattle.giop_show.proofs.AppendsLemmas.{Appends-append}
+use Rattle.giop_show.proofs.RestLemmas.{nothing_left}
 
 -- where nothing is unread, no message stands at the front, and no fault
 pub nothing_waits : (unread : Unread) → unread.octets ≡ [] → Waits unread

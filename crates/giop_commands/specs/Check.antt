@@ -30,8 +30,7 @@ use Rattle.giop_lines.specs.declared.refusal.RefusalLine.TheVariants.{Form}
 use Rattle.giop_forms.specs.declared.line_form.LineForm.{LineForm}
 use Rattle.giop_types.specs.declared.json.number_form.NumberForm.TheVariants.{Plain}
 use Rattle.giop_forms.specs.declared.line_form.LineForm.TheVariants.{Text}
-use Rattle.giop_show.specs.Dump.Text.{ended}
-use Rattle.giop_show.specs.Forms.{refused_in}
+use Rattle.giop_show.specs.Forms.{ended, refused_in}
 use Rattle.giop_commands.specs.Session.Faults.Lines.{last_in}
 use Rattle.giop_commands.specs.Session.Faults.Broken.{broken_status}
 use Rattle.giop_commands.specs.Session.Tables.Table.{server_entry_in, table_text}

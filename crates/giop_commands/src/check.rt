@@ -5,7 +5,7 @@ ghost use Rattle.giop_end.specs.declared.session_fault.SessionFault.TheVariants.
 ghost use Rattle.giop_end.specs.Ends.Begun.{no_calls};
 ghost use Rattle.giop_end.specs.Hearing.Heard.{hears_in};
 ghost use Rattle.giop_commands.specs.Check.{AreLimits, Checks, ChecksKnown, HeardKnown, default_limits, fault_status, last_status};
-ghost use Rattle.giop_show.specs.Dump.Text.{ended};
+ghost use Rattle.giop_show.specs.Forms.{ended};
 ghost use Rattle.giop_commands.specs.Session.Faults.Lines.{last_in, session_fault_in};
 
 pub mod strict;
@@ -17,11 +17,10 @@ use crate::session::table::write_table;
 use crate::session::write_session_fault;
 use giop_end::{End, Hearing, Limits, ServerEnd, SessionFault};
 use giop_forms::LineForm;
-use giop_show::dump::BehindFault;
-use giop_show::dump::messages::write_rest;
 use giop_show::failure::Failure;
 use giop_show::pieces::{PieceBuffer, drain};
 use giop_show::status::Status;
+use giop_show::{BehindFault, write_rest};
 use giop_types::{Interface, NumberForm};
 use std::alloc::Global;
 use std::io;

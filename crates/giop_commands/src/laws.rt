@@ -11,8 +11,7 @@ ghost use Rattle.giop_calls.specs.ServerTable.{is_closed, is_gathering, server_s
 ghost use Rattle.giop_table.specs.CallTable.{Held};
 ghost use Rattle.giop_end.specs.Hearing.Heard.{in_call};
 ghost use Rattle.giop_lines.specs.declared.refusal.RefusalLine.TheVariants.{Form};
-ghost use Rattle.giop_show.specs.Dump.Text.{ended};
-ghost use Rattle.giop_show.specs.Forms.{refused_in};
+ghost use Rattle.giop_show.specs.Forms.{ended, refused_in};
 ghost use Rattle.giop_show.specs.declared.status.Status.TheVariants.{Refused};
 ghost use Rattle.giop_commands.specs.Check.{ChecksKnown, ChecksText};
 ghost use Rattle.giop_commands.specs.Session.Acts.{Outbox, SendsPiece};

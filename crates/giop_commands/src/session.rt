@@ -10,7 +10,7 @@ ghost use Rattle.giop_end.specs.Hearing.Heard.{hears_in};
 ghost use Rattle.giop_end.specs.Ends.View.{IsTurned};
 ghost use Rattle.giop_show.specs.declared.failure.Failure.TheVariants.{Memory};
 ghost use Rattle.giop_commands.specs.Check.{answer_of};
-ghost use Rattle.giop_show.specs.Dump.Text.{ended};
+ghost use Rattle.giop_show.specs.Forms.{ended};
 ghost use Rattle.giop_commands.specs.Session.Faults.Lines.{session_fault_in};
 ghost use Rattle.giop_commands.specs.Session.Printed.{fault_text, session_text, told};
 ghost use Rattle.giop_commands.specs.Session.Turns.{CannotBeSent, GoesOnAt, IsOfConnection, peer_octets};

@@ -25,14 +25,6 @@ IsUnread memory_failure = ⊤
 IsUnread (Input e) = ⊤
 IsUnread _ = ⊥
 
--- a status of what is converted or refused
-abbrev pub IsDecided : Status → Type 0
-IsDecided status = (status ≡ Done) ⊎ (status ≡ Refused)
-
--- a status that `convert` ends with: its file is converted or refused, or something failed
-abbrev pub IsConverted : Status → Type 0
-IsConverted status = IsDecided status ⊎ IsFailed status
-
 -- a status that `dump` and `trace` end with: the messages are judged, or something failed
 abbrev pub IsShown : Status → Type 0
 IsShown status = IsJudged status ⊎ IsFailed status

@@ -48,7 +48,7 @@ pub fn read_or_report(rt: &HostRuntime, file: &str) -> Result<Vec<u8>, Status>
 }
 
 /// The text of an interface's file.
-pub(crate) fn read_interface(rt: &HostRuntime, file: &str) -> Result<InterfaceText, Failure> {
+pub fn read_interface(rt: &HostRuntime, file: &str) -> Result<InterfaceText, Failure> {
     InterfaceText::new(rt.alloc(), read(rt, file)?)
 }
 

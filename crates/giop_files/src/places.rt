@@ -38,7 +38,7 @@ pub(crate) fn of_interface(alloc: Global, text: &InterfaceText, fault: FormFault
 }
 
 /// The first fault of this kind in the text of a value, by the text of its description.
-pub(crate) fn of_value(alloc: Global, desc: &[u8], text: &[u8], fault: FormFault) -> Option<Place>
+pub fn of_value(alloc: Global, desc: &[u8], text: &[u8], fault: FormFault) -> Option<Place>
     ensures { IfSome result (IsPlaceIn Role.Value desc.now text.now fault) }
 {
     match (parse_json(alloc, desc), parse_json(alloc, text)) {

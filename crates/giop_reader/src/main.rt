@@ -3,7 +3,8 @@
 //! itself is built.
 #![tactic(auto)]
 
-use giop_files::{convert, dump, report};
+use giop_files::report;
+use giop_reading::{convert, dump};
 use giop_show::status::Status;
 use giop_words::{Task, task_of};
 use std::process::ExitCode;

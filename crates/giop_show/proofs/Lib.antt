@@ -1,5 +1,4 @@
-pub mod DumpLemmas
-pub mod JoiningLemmas
+pub mod AppendsLemmas
+pub mod RestLemmas
 pub mod PiecesLemmas
-pub mod ConvertLemmas
 pub mod BodiesLemmas

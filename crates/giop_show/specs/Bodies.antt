@@ -4,6 +4,7 @@ use Rattle.giop_types.specs.declared.json.interface.Interface.{Interface}
 use Rattle.giop_types.specs.declared.json.interface.Operation.{Operation}
 use Rattle.giop_types.specs.declared.json.parameters.Parameter.{Parameter}
 use Rattle.giop_types.specs.declared.json.number_form.NumberForm.{NumberForm}
+use Rattle.giop_types.specs.IorText.{text_written}
 use Rattle.giop_types.specs.JsonForms.ValuesText.{values_text}
 use Rattle.giop_ior.specs.Ior.{Reference, ior_layout}
 use Rattle.giop_msg.specs.declared.messages.reply_body.ReplyBody.{ReplyBody}
@@ -11,7 +12,10 @@ use Rattle.giop_msg.specs.declared.messages.reply_body.ReplyBody.TheVariants.{No
 use Rattle.giop_msg.specs.declared.messages.request.Request.{Request}
 use Rattle.giop_msg.specs.Messages.Reply.{exception_in, listed, outs_of}
 use Rattle.giop_msg.specs.Messages.Request.{offer_at, operation_asked}
-use Rattle.giop_show.specs.Convert.{reference_text}
+
+-- the text of a reference, written again
+abbrev pub reference_text : Reference → List ℕ
+reference_text ior = text_written ior_layout.written ior
 
 -- the text of the reference that a Reply forwards to; - where octets spell none, as a decoded one's
 -- do

@@ -1,11 +1,14 @@
 -- What a command tells in a form: as lines of text, or as lines of JSON.
-use Rattle.std.specs.Prelude.{ℕ, List, [], Option, Some, None, codes}
+use Rattle.std.specs.Prelude.{ℕ, List, [], ◌∷◌, ◌++◌, Option, Some, None, codes}
 use Rattle.giop_lines.specs.declared.refusal.RefusalLine.{RefusalLine}
 use Rattle.giop_lines.specs.ConvertJson.{refusal_json}
 use Rattle.giop_lines.specs.ConvertLines.{refusal_line}
 use Rattle.giop_forms.specs.declared.line_form.LineForm.{LineForm}
 use Rattle.giop_forms.specs.declared.line_form.LineForm.TheVariants.{Text, Json}
-use Rattle.giop_show.specs.Dump.Text.{ended}
+
+-- a line and its newline
+abbrev pub ended : List ℕ → List ℕ
+ended line = line ++ 10 ∷ []
 
 -- a part of what is told: a line of text, or members of the JSON line
 abbrev pub part_in : LineForm → List ℕ → List ℕ → List ℕ

@@ -1,5 +1,6 @@
 pub mod Status
 pub mod Forms
-pub mod Convert
+pub mod FileText
+pub mod Refusals
+pub mod Rest
 pub mod Bodies
-pub mod Dump

@@ -3,8 +3,7 @@
 ghost use Rattle.std.specs.Prelude.{◌≡◌, IfOk, IfSome, OnOk};
 ghost use Rattle.std.specs.Io.KnownBytes.{Appends};
 ghost use Rattle.std.specs.String.{string_bytes};
-ghost use Rattle.giop_show.specs.Dump.Text.{ended};
-ghost use Rattle.giop_show.specs.Forms.{closed_in, ended_in, line_in, part_in, refused_in, told_in};
+ghost use Rattle.giop_show.specs.Forms.{ended, closed_in, ended_in, line_in, part_in, refused_in, told_in};
 
 use crate::failure::Failure;
 use crate::status::Status;

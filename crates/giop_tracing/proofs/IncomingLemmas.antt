@@ -10,7 +10,7 @@ use Rattle.giop_msg.specs.Stream.{BeginsWithFault, BeginsWithMessage, Msgs, Take
 use Rattle.giop_msg.proofs.StreamLemmas.{each_head, each_tail, fault_stands, message_or_fault, same_message}
 use Rattle.giop_tracing.specs.Trace.Incoming.{IsLast, IsNext, Passes, unheard}
 use Rattle.giop_tracing.specs.Trace.Text.{AreMessages}
-use Rattle.giop_show.proofs.DumpLemmas.{rest_fault-none, rest_fault-stands}
+use Rattle.giop_show.proofs.RestLemmas.{rest_fault-none, rest_fault-stands}
 
 -- octets that begin with a message are it and others
 first_of : (limit : ℕ) (m : Msg) (more : List ℕ) (messages : List Msg) (rest : List ℕ) → IsMessage limit m

@@ -15,12 +15,12 @@ use Rattle.giop_trace.specs.Observing.{heard as heard_of, is_early, left}
 use Rattle.giop_types.specs.declared.json.interface.Interface.{Interface}
 use Rattle.giop_forms.specs.declared.line_form.LineForm.{LineForm}
 use Rattle.giop_forms.specs.declared.line_form.LineForm.TheVariants as form
-use Rattle.giop_show.specs.Dump.Text.{ended}
+use Rattle.giop_show.specs.Forms.{ended}
 use Rattle.giop_tracing.specs.Trace.Incoming.{EndsWith, IsLast, Passes, unheard}
 use Rattle.giop_tracing.specs.Trace.Outcome.{direction_end_in}
 use Rattle.giop_tracing.specs.Trace.Loops.{HearsBoth, HearsClient, HearsServer}
 use Rattle.giop_tracing.specs.Trace.Text.{AreMessages, Turn, all_open, behind, both_text, both_turn, client_text, client_turn, end_text, heard_lines, server_turn}
-use Rattle.giop_show.proofs.DumpLemmas.{Appends-append, Appends-kept, Appends-nil}
+use Rattle.giop_show.proofs.AppendsLemmas.{Appends-append, Appends-kept, Appends-nil}
 
 -- contents that were kept, and then grew
 pub kept_appends : (a b c : Option (List ℕ)) (xs : List ℕ) → Keeps a b → Appends b c xs → Appends a c xs

@@ -6,7 +6,8 @@ mod commands;
 mod connection;
 
 use commands::{call, check, locate, ping, serve, trace};
-use giop_files::{convert, dump, report};
+use giop_files::report;
+use giop_reading::{convert, dump};
 use giop_show::status::Status;
 use giop_words::{Task, task_of};
 use std::process::ExitCode;

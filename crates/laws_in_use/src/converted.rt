@@ -3,7 +3,7 @@ ghost use Rattle.std.specs.Prelude.{◌≡◌, Ok};
 ghost use Rattle.giop_cdr.specs.Reading.Values.{fault};
 ghost use Rattle.giop_cdr.specs.declared.fault.CdrKind.TheVariants.{Trailing};
 ghost use Rattle.giop_types.specs.Coding.Decoding.{decode_at};
-ghost use Rattle.giop_show.specs.Convert.{RefusedOctets, reader_of};
+ghost use Rattle.giop_converting.specs.Convert.{RefusedOctets, reader_of};
 
 /// Octets of which a value is read are refused for what stands behind it alone, at the place where the
 /// value ends.

@@ -26,7 +26,7 @@ use Rattle.giop_commands.specs.Session.Printed.{Wire, told}
 use Rattle.giop_commands.specs.Session.Streaming.{over_text}
 use Rattle.giop_commands.specs.Session.Tables.Table.{client_entry_in}
 use Rattle.giop_commands.specs.Session.Turns.{most_turns}
-use Rattle.giop_show.proofs.DumpLemmas.{Appends-append}
+use Rattle.giop_show.proofs.AppendsLemmas.{Appends-append}
 use Rattle.giop_commands.proofs.OnSession.StepLemmas.{Before, Counted}
 use Rattle.giop_commands.proofs.OnSession.StreamingLemmas.{unfailed}
 

@@ -28,8 +28,7 @@ use Rattle.giop_show.specs.declared.status.Status.TheVariants.{Done}
 use Rattle.giop_commands.specs.Session.Acts.{Outbox, outbox}
 use Rattle.giop_calling.specs.Call.Calling.{Asked, CallsOne, CallsSent, ClientCalls, ClientSide, are_over, asked_of, client_hears, entry_at}
 use Rattle.giop_commands.specs.Check.{nothing_read}
-use Rattle.giop_show.specs.Dump.Text.{ended}
-use Rattle.giop_show.specs.Forms.{line_in}
+use Rattle.giop_show.specs.Forms.{ended, line_in}
 use Rattle.giop_commands.specs.Session.Printed.{Wire, fault_text, told}
 use Rattle.giop_calling.specs.Call.Printed.{all_well, is_well, unwell_status}
 use Rattle.giop_commands.specs.Session.Faults.Broken.{broken_status}

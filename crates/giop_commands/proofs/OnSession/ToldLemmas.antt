@@ -17,7 +17,7 @@ use Rattle.giop_table.specs.declared.slot.Slot.{Slot}
 use Rattle.giop_table.specs.Sending.{entry_of}
 use Rattle.giop_commands.specs.Session.Streaming.{ended_at, has_ended, over_at, without_ended, without_over}
 use Rattle.giop_commands.specs.Session.Tables.Table.{entry_text}
-use Rattle.giop_show.proofs.DumpLemmas.{Appends-append}
+use Rattle.giop_show.proofs.AppendsLemmas.{Appends-append}
 
 -- ---- the ids of a table are apart
 

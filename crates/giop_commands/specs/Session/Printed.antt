@@ -4,7 +4,7 @@ use Rattle.giop_ids.specs.ById.{ById}
 use Rattle.giop_end.specs.declared.session_fault.SessionFault.{SessionFault}
 use Rattle.giop_table.specs.declared.slot.Slot.{Slot}
 use Rattle.giop_forms.specs.declared.line_form.LineForm.{LineForm}
-use Rattle.giop_show.specs.Dump.Text.{ended}
+use Rattle.giop_show.specs.Forms.{ended}
 use Rattle.giop_commands.specs.Session.Faults.Lines.{session_fault_in}
 use Rattle.giop_commands.specs.Session.Tables.Table.{table_text}
 

@@ -20,7 +20,7 @@ use Rattle.giop_commands.specs.declared.session.target.Targeted.{Targeted}
 use Rattle.giop_commands.specs.declared.session.target.Targeted.TheVariants as targeted
 use Rattle.giop_lines.specs.declared.refusal.RefusalLine.{RefusalLine}
 use Rattle.giop_lines.specs.declared.refusal.RefusalLine.TheVariants.{Corbaloc as BadCorbaloc, NoIiopProfile}
-use Rattle.giop_show.specs.Convert.{ior_refusal}
+use Rattle.giop_show.specs.Refusals.{ior_refusal}
 
 -- octets in lower case
 abbrev pub lower_case : List ℕ → List ℕ

@@ -5,12 +5,11 @@ ghost use Rattle.std.specs.Io.KnownBytes.{IsAtEnd};
 ghost use Rattle.giop_commands.specs.Check.{AreLimits, ChecksText};
 
 use crate::check::{Checking, check_stream};
-use giop_show::convert::value::form_refusal;
-use giop_show::dump::BehindFault;
 use giop_show::failure::Failure;
 use giop_show::form::refuse_in;
 use giop_show::pieces::{PieceBuffer, drain};
 use giop_show::status::Status;
+use giop_show::{BehindFault, form_refusal};
 use giop_types::Interface;
 use std::alloc::Global;
 use std::io::{Read, Write};

@@ -16,8 +16,8 @@ use giop_ior::{
 };
 use giop_lines::RefusalLine;
 use giop_msg::Version;
-use giop_show::convert::reference::ior_refusal;
 use giop_show::failure::Failure;
+use giop_show::ior_refusal;
 use std::alloc::{AllocError, Global};
 
 /// Where an object is reached, in which version, and by which key.

@@ -1,5 +1,5 @@
 //! A message of the greatest size. Other files are cases of the built program (tests/cases/dump).
-use giop_show::dump_octets;
+use giop_dumping::dump_octets;
 use giop_show::status::Status;
 use std::test::Fail;
 

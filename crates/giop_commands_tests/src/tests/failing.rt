@@ -1,5 +1,5 @@
 //! Commands that fail: a writer that fails, and the status and the text of each failure.
-use giop_show::dump_octets;
+use giop_dumping::dump_octets;
 use giop_show::failure::Failure;
 use giop_show::status::Status;
 use std::io;

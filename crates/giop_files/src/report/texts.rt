@@ -31,13 +31,7 @@ pub fn interface(rt: &impl Eprint, alloc: Global, file: &str, text: &InterfaceTe
 }
 
 /// Prints what is wrong with the text of a description, and where, as far as that is known.
-pub(crate) fn description(
-    rt: &impl Eprint,
-    alloc: Global,
-    file: &str,
-    text: &[u8],
-    fault: FormFault,
-) {
+pub fn description(rt: &impl Eprint, alloc: Global, file: &str, text: &[u8], fault: FormFault) {
     let other = "JSON, but not in the form of a description";
     print_fault(rt, alloc, file, text, fault, other);
     let at = places::of_file(alloc, Role::Description, text, fault);
@@ -45,7 +39,7 @@ pub(crate) fn description(
 }
 
 /// Prints what is wrong with the text of a value, and where.
-pub(crate) fn value(
+pub fn value(
     rt: &impl Eprint,
     alloc: Global,
     file: &str,
@@ -108,7 +102,7 @@ pub fn text(rt: &impl Eprint, file: &str, wrong: &str) {
 }
 
 /// Prints why hexadecimal digits are refused, and where: the first of them has this offset.
-pub(crate) fn digits(rt: &impl Eprint, file: &str, offset: usize, fault: FromHexError) {
+pub fn digits(rt: &impl Eprint, file: &str, offset: usize, fault: FromHexError) {
     let _ = match fault {
         FromHexError::InvalidHexCharacter { index, .. } => {
             eprintln!(rt;

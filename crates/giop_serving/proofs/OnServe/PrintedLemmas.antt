@@ -11,7 +11,7 @@ use Rattle.giop_forms.specs.declared.line_form.LineForm.{LineForm}
 use Rattle.giop_commands.specs.declared.session.ending.Ending.{Ending}
 use Rattle.giop_show.specs.declared.status.Status.{Status}
 use Rattle.giop_show.specs.declared.status.Status.TheVariants.{Done, Refused, LimitPassed, Usage, InputOutput, Memory}
-use Rattle.giop_show.specs.Dump.Text.{ended}
+use Rattle.giop_show.specs.Forms.{ended}
 use Rattle.giop_commands.specs.Session.Endings.{Ends}
 use Rattle.giop_serving.specs.Serve.Endings.{ServesEnd}
 use Rattle.giop_serving.specs.Serve.Printed.{IsServed, Serves, connection_in, serve_status}

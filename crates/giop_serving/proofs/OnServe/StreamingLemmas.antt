@@ -15,7 +15,7 @@ use Rattle.giop_serving.specs.declared.serve.in_turn.AnswerName.{AnswerName}
 use Rattle.giop_show.specs.declared.failure.Failure.{Failure}
 use Rattle.giop_forms.specs.declared.line_form.LineForm.{LineForm}
 use Rattle.giop_commands.specs.declared.session.ending.Ending.{Ending}
-use Rattle.giop_show.specs.Dump.Text.{ended}
+use Rattle.giop_show.specs.Forms.{ended}
 use Rattle.giop_commands.specs.Session.Endings.{Ends}
 use Rattle.giop_serving.specs.Serve.Endings.{ServesStreamEnd}
 use Rattle.giop_serving.specs.Serve.Serving.{ServeEnds, Served, ServerCalls, Session, TurnAnswers, new_server, session}

@@ -17,8 +17,7 @@ use Rattle.giop_forms.specs.declared.line_form.LineForm.{LineForm}
 use Rattle.giop_show.specs.declared.status.Status.{Status}
 use Rattle.giop_show.specs.declared.status.Status.TheVariants.{Done, InputOutput, Memory}
 use Rattle.giop_commands.specs.Check.{fault_status}
-use Rattle.giop_show.specs.Dump.Text.{ended}
-use Rattle.giop_show.specs.Forms.{line_in}
+use Rattle.giop_show.specs.Forms.{ended, line_in}
 use Rattle.giop_serving.specs.Serve.Serving as serving
 use Rattle.giop_serving.specs.Serve.Serving.{Served, ServerCalls, new_server, served_of, session}
 use Rattle.giop_commands.specs.Session.Tables.Table.{server_entry_in}

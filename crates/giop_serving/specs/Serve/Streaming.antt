@@ -14,7 +14,7 @@ use Rattle.giop_serving.specs.declared.serve.in_turn.AnswerName.{AnswerName}
 use Rattle.giop_serving.specs.declared.serve.in_turn.Passed.{Passed}
 use Rattle.giop_forms.specs.declared.line_form.LineForm.{LineForm}
 use Rattle.giop_show.specs.declared.status.Status.{Status}
-use Rattle.giop_show.specs.Dump.Text.{ended}
+use Rattle.giop_show.specs.Forms.{ended}
 use Rattle.giop_commands.specs.Session.Faults.Lines.{last_in}
 use Rattle.giop_serving.specs.Serve.Serving.{ServeEnds, Served, ServerCalls, ServerSide, Session, TurnAnswers, new_server, served_of, session, session_at}
 use Rattle.giop_commands.specs.Session.Printed.{Wire, told}

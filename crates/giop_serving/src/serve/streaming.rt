@@ -3,7 +3,7 @@
 ghost use Rattle.std.specs.Prelude.{◌≡◌, IfOk, None, OnOk};
 ghost use Rattle.std.specs.Io.KnownBytes.{Appends};
 ghost use Rattle.giop_calls.specs.ServerTable.{is_closed};
-ghost use Rattle.giop_show.specs.Dump.Text.{ended};
+ghost use Rattle.giop_show.specs.Forms.{ended};
 ghost use Rattle.giop_commands.specs.Session.Endings.{Ends};
 ghost use Rattle.giop_serving.specs.Serve.Serving.{IsNew};
 ghost use Rattle.giop_serving.specs.Serve.Endings.{ServesStreamEndOver};

@@ -4,7 +4,7 @@ use Rattle.std.specs.Io.KnownBytes.{prepend_known}
 use Rattle.giop_msg.specs.declared.fault.WireFault.{WireFault}
 use Rattle.giop_msg.specs.declared.msg.Msg.{Msg}
 use Rattle.giop_msg.specs.Stream.{Unread}
-use Rattle.giop_show.specs.Dump.Text.{rest_fault}
+use Rattle.giop_show.specs.Rest.{rest_fault}
 use Rattle.giop_tracing.specs.Trace.Text.{AreMessages}
 
 -- the octets that are not heard yet, where those that are not read yet are known

@@ -29,7 +29,7 @@ use Rattle.giop_tracing.specs.declared.trace.call_line.Told.{Told}
 use Rattle.giop_tracing.specs.declared.trace.call_line.Unanswered.{Unanswered}
 use Rattle.giop_tracing.specs.declared.trace.call_line.Unanswered.TheVariants.{Oneway, NoAnswer, Untold}
 use Rattle.giop_show.specs.Bodies.{brought_by, request_ins}
-use Rattle.giop_show.specs.Dump.Text.{ended}
+use Rattle.giop_show.specs.Forms.{ended}
 use Rattle.giop_tracing.specs.Trace.Calls.{answered_of, asked_of, is_call, replied, request_in}
 
 -- a message that isn't decoded: what it is, its kind and its joined octets

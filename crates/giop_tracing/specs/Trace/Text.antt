@@ -23,8 +23,8 @@ use Rattle.giop_tracing.specs.declared.trace.Heard.{Heard}
 use Rattle.giop_tracing.specs.declared.trace.Heard.TheVariants as heard
 use Rattle.giop_tracing.specs.declared.trace.call_line.Unanswered.{Unanswered}
 use Rattle.giop_tracing.specs.declared.trace.call_line.Unanswered.TheVariants.{Oneway, NoAnswer, Untold}
-use Rattle.giop_show.specs.Dump.Text.{ended, rest_fault}
-use Rattle.giop_show.specs.Forms.{refused_in}
+use Rattle.giop_show.specs.Forms.{ended, refused_in}
+use Rattle.giop_show.specs.Rest.{rest_fault}
 use Rattle.giop_tracing.specs.Trace.Outcome.{direction_end_in}
 use Rattle.giop_tracing.specs.Trace.Json.{call_line}
 

@@ -2,7 +2,7 @@
 //! of specs/Trace/Lines.antt: change both.
 ghost use Rattle.std.specs.Prelude.{◌≡◌, IfOk, OnOk, option_copied};
 ghost use Rattle.std.specs.Io.KnownBytes.{Appends};
-ghost use Rattle.giop_show.specs.Dump.Text.{ended};
+ghost use Rattle.giop_show.specs.Forms.{ended};
 ghost use Rattle.giop_tracing.specs.Trace.Calls.{answered_of, asked_of, request_in};
 ghost use Rattle.giop_tracing.specs.Trace.Json.{call_line, told_line};
 ghost use Rattle.giop_tracing.specs.Trace.Lines.{open_text, told_text};

@@ -1,7 +1,7 @@
 //! What is left of the octets of one direction, and its messages.
 ghost use Rattle.std.specs.Prelude.{◌≡◌, ◌^◌, ◌<◌, [], None, IfNone, IfSome, IfOk, OnOk, length};
 ghost use Rattle.std.specs.Io.KnownBytes.{Appends, IsAtEnd, Keeps};
-ghost use Rattle.giop_show.specs.Dump.Text.{ended};
+ghost use Rattle.giop_show.specs.Forms.{ended};
 ghost use Rattle.giop_show.specs.Status.{IsJudged};
 ghost use Rattle.giop_tracing.specs.Trace.Incoming.{IsLast, IsNext, unheard};
 ghost use Rattle.giop_tracing.specs.Trace.Outcome.{direction_end_in, direction_status};

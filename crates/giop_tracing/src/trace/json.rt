@@ -2,7 +2,7 @@
 //! change both.
 ghost use Rattle.std.specs.Prelude.{OnOk};
 ghost use Rattle.std.specs.Io.KnownBytes.{Appends};
-ghost use Rattle.giop_show.specs.Dump.Text.{ended};
+ghost use Rattle.giop_show.specs.Forms.{ended};
 ghost use Rattle.giop_tracing.specs.Trace.Json.{message_json, null_json, open_json, outcome_of, told_json, what_json};
 
 mod answer;

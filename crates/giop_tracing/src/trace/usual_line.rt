@@ -4,7 +4,7 @@
 ghost use Rattle.std.specs.Prelude.{◌≡◌, ◌≤◌, ◌^◌, ◌++◌, Some, IfOk, IfSome, OnOk, codes, false, length, map, true};
 ghost use Rattle.std.specs.String.{string_bytes};
 ghost use Rattle.giop_types.specs.Values.Views.{value_view};
-ghost use Rattle.giop_show.specs.Dump.Text.{ended};
+ghost use Rattle.giop_show.specs.Forms.{ended};
 ghost use Rattle.giop_tracing.specs.Trace.Lines.{both_lists, call_text, reply_line, request_result, result_text};
 
 use giop_cdr::SliceOctets;

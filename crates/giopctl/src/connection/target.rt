@@ -6,9 +6,9 @@ use giop_files::report;
 use giop_files::report::refusals::refuse;
 use giop_forms::LineForm;
 use giop_lines::EscapedText;
-use giop_show::convert::unended;
 use giop_show::failure::Failure;
 use giop_show::status::Status;
+use giop_show::unended;
 
 /// The text of a target: itself, or behind `@` that of a file, of which a newline at the end is
 /// dropped.

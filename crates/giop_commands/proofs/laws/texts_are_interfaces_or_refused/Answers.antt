@@ -3,8 +3,7 @@ use Rattle.std.specs.Io.KnownBytes.{Appends}
 use Rattle.giop_types.specs.declared.json.form_fault.FormFault.{FormFault}
 use Rattle.giop_types.specs.JsonForms.InterfaceFromJson.{Offer, interface_view}
 use Rattle.giop_lines.specs.declared.refusal.RefusalLine.TheVariants.{Form}
-use Rattle.giop_show.specs.Dump.Text.{ended}
-use Rattle.giop_show.specs.Forms.{refused_in}
+use Rattle.giop_show.specs.Forms.{ended, refused_in}
 use Rattle.giop_commands.proofs.laws.texts_are_interfaces_or_refused.Goals as goal
 
 -- what a text tells is one thing

@@ -8,7 +8,7 @@ use Rattle.giop_end.specs.declared.session_fault.SessionFault.TheVariants.{Wire,
 use Rattle.giop_lines.specs.Lines.{cdr_fault_text}
 use Rattle.giop_forms.specs.declared.line_form.LineForm.{LineForm}
 use Rattle.giop_commands.specs.Session.Faults.Json.{session_fault_json}
-use Rattle.giop_show.specs.Dump.Heads.{rest_in}
+use Rattle.giop_show.specs.Rest.{rest_in}
 use Rattle.giop_show.specs.Forms.{line_in}
 
 -- why an end failed: fault NUMBER NAME, behind which the fault of a header, of a call or

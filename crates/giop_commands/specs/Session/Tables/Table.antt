@@ -10,9 +10,8 @@ use Rattle.giop_table.specs.declared.slot.Slot.{Slot}
 use Rattle.giop_table.specs.Sending.{entry_of}
 use Rattle.giop_commands.specs.Session.Tables.Bodies.{brought_text, ins_text}
 use Rattle.giop_forms.specs.declared.line_form.LineForm.{LineForm}
-use Rattle.giop_show.specs.Dump.Text.{ended}
+use Rattle.giop_show.specs.Forms.{ended, line_in}
 use Rattle.giop_forms.specs.Forms.{numbers_of}
-use Rattle.giop_show.specs.Forms.{line_in}
 use Rattle.giop_commands.specs.Session.Tables.Shown.{entry_object, entry_shown}
 use Rattle.giop_call_lines.specs.SessionJson.{client_json}
 use Rattle.giop_call_lines.specs.TableLines.{client_line, server_line}

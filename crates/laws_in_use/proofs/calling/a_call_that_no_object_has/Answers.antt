@@ -23,7 +23,7 @@ use Rattle.giop_end.specs.declared.session_fault.SessionFault.TheVariants.{Call 
 use Rattle.giop_table.specs.CallTable.{rules_of}
 use Rattle.giop_table.specs.Sending.{entry_of}
 use Rattle.giop_table.specs.declared.slot.Slot.{Slot}
-use Rattle.giop_show.specs.Dump.Text.{ended}
+use Rattle.giop_show.specs.Forms.{ended}
 use Rattle.giop_commands.specs.Check.{nothing_read}
 use Rattle.giop_commands.specs.Session.Acts.{Outbox}
 use Rattle.giop_commands.specs.Session.Faults.Lines.{session_fault_in}

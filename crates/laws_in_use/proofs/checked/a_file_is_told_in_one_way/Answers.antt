@@ -20,7 +20,7 @@ use Rattle.giop_table.specs.CallTable.{Held}
 use Rattle.giop_forms.specs.declared.line_form.LineForm.{LineForm}
 use Rattle.giop_show.specs.declared.status.Status.{Status}
 use Rattle.giop_show.specs.declared.status.Status.TheVariants.{Done}
-use Rattle.giop_show.specs.Dump.Text.{ended}
+use Rattle.giop_show.specs.Forms.{ended}
 use Rattle.giop_commands.specs.Check.{IsChecked, answer_of, default_limits, end_text, last_status, nothing_read, server_hears, strict_status}
 use Rattle.giop_commands.specs.Session.Faults.Lines.{last_in}
 use Rattle.giop_commands.specs.Session.Tables.Table.{server_entry_in, table_text, text_at}

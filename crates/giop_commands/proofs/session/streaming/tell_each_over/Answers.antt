@@ -1,5 +1,5 @@
 use Rattle.std.proofs.Common.{◌∙◌, refl}
-use Rattle.giop_show.proofs.DumpLemmas.{Appends-nil}
+use Rattle.giop_show.proofs.AppendsLemmas.{Appends-nil}
 use Rattle.giop_commands.proofs.OnSession.StreamingLemmas.{same_rule, table_stepped, tables_on, unfailed_on}
 use Rattle.giop_commands.proofs.OnSession.ToldLemmas.{one_more_out, one_more_told}
 use Rattle.giop_commands.proofs.session.streaming.tell_each_over.Goals as goal

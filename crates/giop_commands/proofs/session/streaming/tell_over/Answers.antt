@@ -2,7 +2,7 @@ use Rattle.std.proofs.Common.{◌≡◌, Result, Ok, Err, ap}
 use Rattle.std.specs.Result.{IsErrAnd}
 use Rattle.giop_commands.specs.declared.session.untold.Untold.{Untold}
 use Rattle.giop_commands.specs.declared.session.untold.Untold.TheVariants.{Memory}
-use Rattle.giop_show.proofs.DumpLemmas.{Appends-kept}
+use Rattle.giop_show.proofs.AppendsLemmas.{Appends-kept}
 use Rattle.giop_commands.proofs.OnSession.ToldLemmas.{keys_apart}
 use Rattle.giop_commands.proofs.session.streaming.tell_over.Goals as goal
 

@@ -1,4 +1,4 @@
-use Rattle.giop_show.proofs.DumpLemmas.{Appends-kept}
+use Rattle.giop_show.proofs.AppendsLemmas.{Appends-kept}
 use Rattle.giop_serving.proofs.serve.streaming.tell_begin.Goals as goal
 
 pub returns : goal.returns

@@ -1,7 +1,7 @@
 use Rattle.std.proofs.Common.{arith, subst}
 use Rattle.std.proofs.lemmas.Grind.{common_steps}
 use Rattle.std.specs.Io.KnownBytes.{Appends}
-use Rattle.giop_show.proofs.DumpLemmas.{Appends-append}
+use Rattle.giop_show.proofs.AppendsLemmas.{Appends-append}
 use Rattle.giop_tracing.proofs.trace.answer_part.write_undecoded.Goals as goal
 
 pub returns : goal.returns

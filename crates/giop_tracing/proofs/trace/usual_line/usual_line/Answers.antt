@@ -1,7 +1,7 @@
 use Rattle.std.proofs.Common.{◌≡◌, false, Ok, IfOk, IfSome, string_bytes, refl, sym, subst}
 use Rattle.giop_msg.specs.declared.kind.Kind.TheVariants as kind
 use Rattle.giop_msg.specs.Messages.RequestAnswer.{request_of_joined}
-use Rattle.giop_show.specs.Dump.Text.{ended}
+use Rattle.giop_show.specs.Forms.{ended}
 use Rattle.giop_tracing.proofs.TracedLemmas.{usual_call}
 use Rattle.giop_tracing.proofs.trace.usual_line.usual_line.Goals as goal
 

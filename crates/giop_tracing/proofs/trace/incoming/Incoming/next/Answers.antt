@@ -4,7 +4,7 @@ use Rattle.std.proofs.lemmas.List.{append-nil}
 use Rattle.giop_msg.specs.declared.fault.WireFault.{WireFault}
 use Rattle.giop_msg.specs.Stream.{TakesMessage, Unread, Waits}
 use Rattle.giop_tracing.specs.Trace.Incoming.{IsLast, unheard}
-use Rattle.giop_show.proofs.DumpLemmas.{nothing_left}
+use Rattle.giop_show.proofs.RestLemmas.{nothing_left}
 use Rattle.giop_tracing.proofs.IncomingLemmas.{fed_kept, is_last, is_last_fault, is_next, last_kept, next_kept}
 use Rattle.giop_tracing.proofs.trace.incoming.Incoming.next.Goals as goal
 
