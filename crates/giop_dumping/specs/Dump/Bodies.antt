@@ -7,7 +7,7 @@ use Rattle.giop_msg.specs.declared.kind.Kind.{Kind}
 use Rattle.giop_msg.specs.declared.kind.Kind.TheVariants.{Request as request_kind}
 use Rattle.giop_msg.specs.declared.messages.request.Request.{Request}
 use Rattle.giop_msg.specs.declared.messages.request_fault.RequestFault.{RequestFault}
-use Rattle.giop_msg.specs.declared.messages.request_fault.RequestFault.TheVariants.{Header, Operation, Body}
+use Rattle.giop_msg.specs.declared.messages.request_fault.RequestFault.TheVariants.{Header}
 use Rattle.giop_msg.specs.declared.msg.Msg.{Msg}
 use Rattle.giop_msg.specs.Messages.RequestAnswer.{request_of_joined}
 use Rattle.giop_types.specs.declared.json.form_fault.FormFault.{FormFault}
