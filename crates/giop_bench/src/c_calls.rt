@@ -10,7 +10,7 @@ mod row;
 mod server_alone;
 
 use giop_end::Limits;
-use giop_types::Interface;
+use giop_json::interface_from_json;
 
 const J: &[u8] =
     b"{\"operations\":{\"ping\":{},\"add\":{\"ins\":[[\"a\",\"long\"],[\"b\",\"long\"]],\"outs\":[[\"sum\",\"long\"]]},\"put\":{\"ins\":[[\"o\",\"octets\"]]}}}";
@@ -49,7 +49,7 @@ fn copied(octets: &[u8], buffer: &mut [u8]) -> Option<usize>
 /// connection can't be made or breaks, or it is out of memory.
 pub fn run(rt: &HostRuntime, name: &str, times: &str) -> Option<u64> {
     let calls = times.parse::<u32>().ok()?;
-    let interface = Interface::from_json(rt.alloc(), J).ok()?;
+    let interface = interface_from_json(rt.alloc(), J).ok()?;
     match name {
         "server" => server_alone::run(rt.alloc(), &interface, calls),
         "memory-1" => both_ends::over_memory(rt.alloc(), &interface, calls, 1),

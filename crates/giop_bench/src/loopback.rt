@@ -6,6 +6,7 @@ ghost use Rattle.std.specs.Prelude.{◌<◌, ◌≤◌};
 use giop_calls::{ClientEntry, ServerEntry};
 use giop_cdr::OctetList;
 use giop_end::{ClientEnd, End, Form, Hearing, Limits, ServerEnd, turn, write_out};
+use giop_json::interface_from_json;
 use giop_msg::{Reply, ReplyBody, Request, RequestHead, ServiceContexts, Target, Version};
 use giop_types::{Interface, Value, ValueList};
 use std::alloc::{AllocError, Global};
@@ -160,7 +161,7 @@ fn run_over(
 /// Runs the calls, and returns a checksum of what they came to; `None` where a connection can't be
 /// made or breaks, or it is out of memory.
 pub fn run(rt: &HostRuntime) -> Option<u64> {
-    let interface = Interface::from_json(rt.alloc(), J).ok()?;
+    let interface = interface_from_json(rt.alloc(), J).ok()?;
     let listener = TcpListener::bind(rt, (Ipv4Addr::LOCALHOST, 0)).ok()?;
     let calling = TcpStream::connect(rt, listener.local_addr().ok()?).ok()?;
     let (serving, _) = listener.accept().ok()?;

@@ -5,6 +5,7 @@ ghost use Rattle.std.specs.Prelude.{◌≤◌, ◌^◌, length};
 
 use giop_cdr::{Order, SliceOctets};
 use giop_frag::Gather;
+use giop_json::interface_from_json;
 use giop_msg::{Kind, Msg, Request, Version, can_cut, cut};
 use giop_types::{Interface, Value};
 use std::alloc::Global;
@@ -174,7 +175,7 @@ fn join_all(alloc: Global) -> Option<u64> {
 /// Runs a loop, and returns its checksum; `None` where there is no such loop, or it is out of
 /// memory.
 pub fn run(alloc: Global, name: &str) -> Option<u64> {
-    let interface = Interface::from_json(alloc, J).ok()?;
+    let interface = interface_from_json(alloc, J).ok()?;
     match name {
         "add-read" => read(alloc, &interface, ADD),
         "add-write" => write(alloc, &interface, ADD),

@@ -5,7 +5,7 @@ ghost use Rattle.std.specs.Prelude.{◌≤◌};
 
 use crate::loopback::{J, LIMITS, REPLY, call_all, hear, reply_to, take_all};
 use giop_end::{ClientEnd, Form, ServerEnd, turn};
-use giop_types::Interface;
+use giop_json::interface_from_json;
 use std::alloc::Global;
 use std::net::{Ipv4Addr, TcpListener, TcpStream};
 
@@ -39,7 +39,7 @@ fn serve_all(alloc: Global, end: &mut ServerEnd<'_>, stream: &TcpStream) -> Opti
 /// Prints its port, and serves one connection there. How many calls there were; `None` where the
 /// connection breaks, or it is out of memory.
 pub fn server(rt: &HostRuntime) -> Option<u64> {
-    let interface = Interface::from_json(rt.alloc(), J).ok()?;
+    let interface = interface_from_json(rt.alloc(), J).ok()?;
     let listener = TcpListener::bind(rt, (Ipv4Addr::LOCALHOST, 0)).ok()?;
     println!(rt; "{}", listener.local_addr().ok()?.port()).ok()?;
     let (stream, _) = listener.accept().ok()?;
@@ -55,7 +55,7 @@ pub fn client(rt: &HostRuntime, port: &str, at_once: u32) -> Option<u64>
     if at_once == 0 {
         return None;
     }
-    let interface = Interface::from_json(rt.alloc(), J).ok()?;
+    let interface = interface_from_json(rt.alloc(), J).ok()?;
     let port = port.parse::<u16>().ok()?;
     let stream = TcpStream::connect(rt, (Ipv4Addr::LOCALHOST, port)).ok()?;
     let mut end = ClientEnd::new(rt.alloc(), &interface, LIMITS);

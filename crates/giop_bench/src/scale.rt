@@ -3,6 +3,7 @@
 //! 16 KB, fed by 4,096 octets. `bench/session/twin.rs` does the same in plain Rust.
 use crate::session::{CALLS, IDS, J, LIMITS, calls, mixed, pieces, serve, set_id};
 use giop_end::{Limits, ServerEnd};
+use giop_json::interface_from_json;
 use giop_types::Interface;
 use std::alloc::Global;
 
@@ -47,7 +48,7 @@ fn flood(alloc: Global, interface: &Interface) -> Option<u64> {
 /// Runs a loop, and returns its checksum; `None` where there is no such loop, or it is out of
 /// memory.
 pub fn run(alloc: Global, name: &str) -> Option<u64> {
-    let interface = Interface::from_json(alloc, J).ok()?;
+    let interface = interface_from_json(alloc, J).ok()?;
     match name {
         "open-1" => calls(alloc, &interface, WIDE, CALLS, 1, 1),
         "open-1000" => calls(alloc, &interface, WIDE, CALLS, 1_000, 1_000),

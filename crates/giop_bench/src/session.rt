@@ -7,6 +7,7 @@ ghost use Rattle.std.specs.Prelude.{◌≡◌, ◌<◌, ◌≤◌, ◌^◌, leng
 use giop_calls::ServerEntry;
 use giop_cdr::{OctetList, Order};
 use giop_end::{Form, Limits, ServerEnd};
+use giop_json::interface_from_json;
 use giop_msg::{
     Kind, Msg, Reply, ReplyBody, Request, RequestHead, ServiceContexts, Target, Version, can_cut,
     cut,
@@ -267,7 +268,7 @@ fn put_all(alloc: Global, interface: &Interface) -> Option<u64> {
 /// Runs a loop, and returns its checksum; `None` where there is no such loop, or it is out of
 /// memory.
 pub fn run(alloc: Global, name: &str) -> Option<u64> {
-    let interface = Interface::from_json(alloc, J).ok()?;
+    let interface = interface_from_json(alloc, J).ok()?;
     match name {
         "calls" => calls(alloc, &interface, LIMITS, CALLS, IDS, 1),
         "calls-512" => calls(alloc, &interface, LIMITS, CALLS, IDS, IDS),

@@ -6,9 +6,8 @@
 //! `bench/types/twin.rs` does the same in plain Rust, but for what reads JSON.
 use crate::work::mixed;
 use giop_cdr::{CdrIn, CdrOut, OctetList, Order, SliceOctets};
-use giop_types::{
-    CheckedDesc, Desc, NamedDesc, Value, decode, encode, value_from_json, value_to_json,
-};
+use giop_json::{value_from_json, value_to_json};
+use giop_types::{CheckedDesc, Desc, NamedDesc, Value, decode, encode};
 use std::alloc::{AllocError, Global};
 
 const VALUES: u32 = 100_000;

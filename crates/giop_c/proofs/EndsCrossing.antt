@@ -7,8 +7,8 @@ use Rattle.std.proofs.Crossing.{crosses}
 use Rattle.std.proofs.MapsCrossing.{crosses as maps}
 use Rattle.giop_types.proofs.description.desc.Desc.TheLaws.TheKnot as desc
 use Rattle.giop_types.proofs.value.Value.TheLaws.TheKnot as value
-use Rattle.giop_types.specs.contracts.json.interface.Interface as Interface
-use Rattle.giop_types.specs.contracts.json.offer.Offer as Offer
+use Rattle.giop_types.specs.contracts.interfaces.interface.Interface as Interface
+use Rattle.giop_types.specs.contracts.interfaces.offer.Offer as Offer
 use Rattle.giop_msg.proofs.framer.Framer.TheSendSync as framer
 use Rattle.giop_msg.proofs.target.Target.TheSendSync as target
 use Rattle.giop_msg.specs.contracts.messages.locate_reply.LocateReply as LocateReply

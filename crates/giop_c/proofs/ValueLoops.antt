@@ -7,17 +7,17 @@ use Rattle.serde_json.specs.Data.{Data}
 use Rattle.serde_json.specs.View.{items_of, items_view}
 use Rattle.serde_json.specs.Written.{items_have_float}
 use Rattle.serde_json.specs.declared.value.Value.{Value as Json}
-use Rattle.giop_types.specs.declared.json.form_fault.FormFault.{FormFault}
-use Rattle.giop_types.specs.declared.json.form_fault.FormFault.TheVariants.{Unfit}
-use Rattle.giop_types.specs.declared.json.parameters.Parameter.{Parameter}
+use Rattle.giop_json.specs.declared.form_fault.FormFault.{FormFault}
+use Rattle.giop_json.specs.declared.form_fault.FormFault.TheVariants.{Unfit}
+use Rattle.giop_types.specs.declared.interfaces.parameters.Parameter.{Parameter}
 use Rattle.giop_types.specs.declared.value.Value.{Value}
 use Rattle.giop_types.specs.Descriptions.CheckedShape.{checked_shape}
-use Rattle.giop_types.specs.declared.json.number_form.NumberForm.TheVariants.{Plain}
-use Rattle.giop_types.specs.JsonForms.ToJson.{to_data}
+use Rattle.giop_json.specs.declared.number_form.NumberForm.TheVariants.{Plain}
+use Rattle.giop_json.specs.ToJson.{to_data}
 use Rattle.giop_types.specs.Values.Tree.{Tree}
 use Rattle.giop_types.specs.Values.Views.{value_view}
 use Rattle.giop_types.proofs.Coding.MemberLoops.{left_is}
-use Rattle.giop_types.proofs.JsonForms.JsonFloatLemmas.{data_whole}
+use Rattle.giop_json.proofs.JsonFloatLemmas.{data_whole}
 use Rattle.giop_c.specs.JsonValues.{each_data, each_told}
 
 -- ---- reading

@@ -5,13 +5,13 @@ use Rattle.giop_cdr.specs.declared.order.Order.{Order}
 use Rattle.giop_cdr.specs.Layout.{AreOctets}
 use Rattle.serde_json.specs.Data.{Data, Items, no_items, item}
 use Rattle.serde_json.specs.Find.{as_array}
-use Rattle.giop_types.specs.declared.json.form_fault.FormFault.{FormFault}
-use Rattle.giop_types.specs.declared.json.form_fault.FormFault.TheVariants.{BadJson, BadShape, BadDesc, Unfit, NoMemory}
-use Rattle.giop_types.specs.declared.json.parameters.Parameter.{Parameter}
+use Rattle.giop_json.specs.declared.form_fault.FormFault.{FormFault}
+use Rattle.giop_json.specs.declared.form_fault.FormFault.TheVariants.{BadJson, BadShape, BadDesc, Unfit, NoMemory}
+use Rattle.giop_types.specs.declared.interfaces.parameters.Parameter.{Parameter}
 use Rattle.giop_types.specs.Descriptions.CheckedShape.{checked_shape}
 use Rattle.giop_types.specs.Descriptions.Shape.{Shape}
-use Rattle.giop_types.specs.JsonForms.DescFromJson.{json_in}
-use Rattle.giop_types.specs.JsonForms.FromJson.{fitting, from_data, shown}
+use Rattle.giop_json.specs.DescFromJson.{json_in}
+use Rattle.giop_json.specs.FromJson.{fitting, from_data, shown}
 use Rattle.giop_types.specs.Values.Fits.{fields_fit, fits}
 use Rattle.giop_types.specs.Values.Tree.{Tree}
 use Rattle.giop_msg.specs.Messages.Alone.{SpellsAlone}

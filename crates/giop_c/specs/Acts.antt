@@ -4,13 +4,13 @@ use Rattle.giop_cdr.specs.declared.fault.CdrFault.{CdrFault}
 use Rattle.giop_cdr.specs.declared.fault.CdrKind.{CdrKind}
 use Rattle.giop_cdr.specs.declared.fault.CdrKind.TheVariants as cdr
 use Rattle.giop_cdr.specs.Faults.{cdr_kind_number}
-use Rattle.giop_types.specs.declared.ior_text_fault.IorTextFault.{IorTextFault}
-use Rattle.giop_types.specs.declared.ior_text_fault.IorTextFault.TheVariants as text
-use Rattle.giop_types.specs.declared.json.form_fault.FormFault.{FormFault}
-use Rattle.giop_types.specs.declared.json.form_fault.FormFault.TheVariants as json
-use Rattle.giop_types.specs.declared.json.parameters.Parameter.{Parameter}
-use Rattle.giop_types.specs.IorText.{ior_text_of}
-use Rattle.giop_types.specs.JsonForms.FormFault.{form_fault_number}
+use Rattle.giop_ior_text.specs.declared.ior_text_fault.IorTextFault.{IorTextFault}
+use Rattle.giop_ior_text.specs.declared.ior_text_fault.IorTextFault.TheVariants as text
+use Rattle.giop_json.specs.declared.form_fault.FormFault.{FormFault}
+use Rattle.giop_json.specs.declared.form_fault.FormFault.TheVariants as json
+use Rattle.giop_types.specs.declared.interfaces.parameters.Parameter.{Parameter}
+use Rattle.giop_ior_text.specs.IorText.{ior_text_of}
+use Rattle.giop_json.specs.FormFault.{form_fault_number}
 use Rattle.giop_types.specs.Values.Tree.{Tree}
 use Rattle.giop_ior.specs.Ior.{Reference, ior_layout}
 use Rattle.giop_msg.specs.Messages.Alone.{values_alone}

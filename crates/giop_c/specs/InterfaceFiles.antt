@@ -2,8 +2,8 @@
 -- that its plain form says, in which none has.
 use Rattle.std.specs.Prelude.{Option, Result, Ok, Err}
 use Rattle.serde_json.specs.Data.{Data}
-use Rattle.giop_types.specs.declared.json.form_fault.FormFault.{FormFault}
-use Rattle.giop_types.specs.JsonForms.InterfaceFromJson.{Offer, interface_told}
+use Rattle.giop_json.specs.declared.form_fault.FormFault.{FormFault}
+use Rattle.giop_json.specs.InterfaceFromJson.{Offer, interface_told}
 use Rattle.giop_names.specs.Interface.{plain_told, told}
 
 -- the interface that a plain form says, where there is one; else why there is none

@@ -1,13 +1,13 @@
 -- What the calls of an interface do, by the status that they answer.
 use Rattle.std.specs.Prelude.{◌≡◌, ℕ, ◌⊎◌, ◌==◌, if◌then◌else◌, List, Option, Some, None, option_map, Result, Ok, Err}
 use Rattle.std_alloc.specs.Arc.{arc_value}
-use Rattle.giop_types.specs.declared.json.form_fault.FormFault.{FormFault}
-use Rattle.giop_types.specs.declared.json.form_fault.FormFault.TheVariants.{BadDesc}
-use Rattle.giop_types.specs.declared.json.interface.Interface.{Interface}
-use Rattle.giop_types.specs.declared.json.parameters.Parameters.{Parameters}
+use Rattle.giop_json.specs.declared.form_fault.FormFault.{FormFault}
+use Rattle.giop_json.specs.declared.form_fault.FormFault.TheVariants.{BadDesc}
+use Rattle.giop_types.specs.declared.interfaces.interface.Interface.{Interface}
+use Rattle.giop_types.specs.declared.interfaces.parameters.Parameters.{Parameters}
 use Rattle.giop_types.specs.Descriptions.DescFaults.{desc_fault_number}
-use Rattle.giop_types.specs.JsonForms.FormFault.{form_fault_number}
-use Rattle.giop_types.specs.JsonForms.InterfaceFromJson.{Offer, interface_view}
+use Rattle.giop_json.specs.FormFault.{form_fault_number}
+use Rattle.giop_json.specs.InterfaceFromJson.{Offer, interface_view}
 use Rattle.giop_types.specs.Values.Tree.{Tree}
 use Rattle.giop_msg.specs.Messages.Reply.{exception_of}
 use Rattle.giop_msg.specs.Messages.Request.{operation_of}

@@ -5,14 +5,14 @@ use Rattle.serde_json.specs.Data.{Data, Items, no_items, item, array}
 use Rattle.serde_json.specs.Find.{as_array}
 use Rattle.serde_json.specs.View.{items_of}
 use Rattle.serde_json.specs.Written.{compact_text}
-use Rattle.giop_types.specs.declared.json.form_fault.FormFault.{FormFault}
-use Rattle.giop_types.specs.declared.json.form_fault.FormFault.TheVariants.{BadJson, BadShape, Unfit}
-use Rattle.giop_types.specs.declared.json.parameters.Parameter.{Parameter}
+use Rattle.giop_json.specs.declared.form_fault.FormFault.{FormFault}
+use Rattle.giop_json.specs.declared.form_fault.FormFault.TheVariants.{BadJson, BadShape, Unfit}
+use Rattle.giop_types.specs.declared.interfaces.parameters.Parameter.{Parameter}
 use Rattle.giop_types.specs.Descriptions.CheckedShape.{checked_shape}
-use Rattle.giop_types.specs.declared.json.number_form.NumberForm.TheVariants.{Plain}
-use Rattle.giop_types.specs.JsonForms.DescFromJson.{json_in}
-use Rattle.giop_types.specs.JsonForms.FromJson.{from_data}
-use Rattle.giop_types.specs.JsonForms.ToJson.{to_data}
+use Rattle.giop_json.specs.declared.number_form.NumberForm.TheVariants.{Plain}
+use Rattle.giop_json.specs.DescFromJson.{json_in}
+use Rattle.giop_json.specs.FromJson.{from_data}
+use Rattle.giop_json.specs.ToJson.{to_data}
 use Rattle.giop_types.specs.Values.Tree.{Tree}
 
 -- ---- reading

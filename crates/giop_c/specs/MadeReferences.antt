@@ -2,7 +2,7 @@
 -- text of a reference says.
 use Rattle.std.specs.Prelude.{◌≡◌, ◌⊎◌, ℕ, ◌&&◌, Bool, true, false, List, [], ◌∷◌, Some, Ok}
 use Rattle.giop_cdr.specs.Layout.{is_spellable}
-use Rattle.giop_types.specs.IorText.{octets_of, prefixed}
+use Rattle.giop_ior_text.specs.IorText.{octets_of, prefixed}
 use Rattle.giop_ior.specs.Iiop as iiop
 use Rattle.giop_ior.specs.Iiop.{iiop_layout, iiop_octets, iiop_of}
 use Rattle.giop_ior.specs.Ior.{Reference}

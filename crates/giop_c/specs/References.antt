@@ -1,9 +1,9 @@
 -- References, corbalocs and IIOP profiles, as C sees them, and what the calls write that read them.
 use Rattle.std.specs.Prelude.{◌≡◌, ◌⊎◌, ℕ, List, Option, Some, None, Result, Ok, Err, IsOk, length, slice_get, true, false}
 use Rattle.giop_cdr.specs.declared.fault.CdrFault.{CdrFault}
-use Rattle.giop_types.specs.declared.ior_text_fault.IorTextFault.{IorTextFault}
-use Rattle.giop_types.specs.declared.ior_text_fault.IorTextFault.TheVariants as text
-use Rattle.giop_types.specs.IorText.{ior_text_of}
+use Rattle.giop_ior_text.specs.declared.ior_text_fault.IorTextFault.{IorTextFault}
+use Rattle.giop_ior_text.specs.declared.ior_text_fault.IorTextFault.TheVariants as text
+use Rattle.giop_ior_text.specs.IorText.{ior_text_of}
 use Rattle.giop_ior.specs.declared.addresses.address.Address.{Address}
 use Rattle.giop_ior.specs.declared.addresses.corbaloc.Corbaloc.{Corbaloc}
 use Rattle.giop_ior.specs.declared.addresses.corbaloc_fault.CorbalocFault.{CorbalocFault}

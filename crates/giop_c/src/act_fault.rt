@@ -6,7 +6,8 @@ use crate::end_records::EndFault;
 use crate::status::{FAULT, NO_MEMORY, OK};
 use giop_cdr::{CdrFault, CdrKind};
 use giop_end::SessionFault;
-use giop_types::{FormFault, IorTextFault};
+use giop_ior_text::IorTextFault;
+use giop_json::FormFault;
 
 /// Why an answer or a call isn't sent.
 #[derive(Clone, Copy, Debug, PartialEq, Eq)]

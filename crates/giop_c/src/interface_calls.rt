@@ -1,7 +1,7 @@
 //! The exported functions of an interface.
 ghost use Rattle.std.specs.Prelude.{◌≡◌, ◌≤◌, ◌^◌, None, length};
 ghost use Rattle.std_alloc.specs.Arc.{arc_value};
-ghost use Rattle.giop_types.specs.JsonForms.DescFromJson.{json_in};
+ghost use Rattle.giop_json.specs.DescFromJson.{json_in};
 ghost use Rattle.giop_c.specs.Calls.{At};
 ghost use Rattle.giop_c.specs.InterfaceFiles.{interface_said};
 ghost use Rattle.giop_c.specs.Interfaces.{Converts, OpensInterface, parameters_of};
@@ -15,7 +15,7 @@ use crate::records::TextFault;
 use crate::shared::Shared;
 use crate::status::{CLOSED, FAULT, NO_MEMORY, OK};
 use crate::value_form::value_form_of;
-use giop_types::FormFault;
+use giop_json::FormFault;
 use std::alloc::Global;
 
 /// Opens a handle: the interface that a JSON text says, in which types may have names. What the

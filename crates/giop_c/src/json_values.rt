@@ -3,15 +3,14 @@
 ghost use Rattle.std.specs.Prelude.{◌≡◌, ◌↔◌, true, false, map, IfOk, IsErrOf};
 ghost use Rattle.serde_json.specs.Data.{array};
 ghost use Rattle.serde_json.specs.View.{items_of, items_view, view};
-ghost use Rattle.giop_types.specs.JsonForms.FromJson.{Reads};
+ghost use Rattle.giop_json.specs.FromJson.{Reads};
 ghost use Rattle.giop_types.specs.Values.Fits.{fields_fit};
 ghost use Rattle.giop_types.specs.Values.Views.{value_view};
 ghost use Rattle.giop_msg.specs.Messages.Body.{fields_in};
 ghost use Rattle.giop_c.specs.JsonValues.{each_data, each_told, text_of_values, values_of_text};
 
-use giop_types::{
-    FormFault, Parameter, Value, ValueList, parse_json, value_from_json, value_to_json,
-};
+use giop_json::{FormFault, parse_json, value_from_json, value_to_json};
+use giop_types::{Parameter, Value, ValueList};
 use serde_json::Value as Json;
 use std::alloc::Global;
 

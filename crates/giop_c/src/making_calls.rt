@@ -4,8 +4,8 @@ ghost use Rattle.std.specs.Prelude.{◌≡◌, ◌∷◌, [], ◌⊎◌, Ok, Err
 ghost use Rattle.giop_cdr.specs.Layout.{is_countable, is_spellable};
 ghost use Rattle.giop_ior.specs.Iiop.{iiop_layout, iiop_octets, iiop_of};
 ghost use Rattle.giop_ior.specs.Ior.{ior_layout};
-ghost use Rattle.giop_types.specs.declared.ior_text_fault.IorTextFault.TheVariants.{NoMemory};
-ghost use Rattle.giop_types.specs.IorText.{ior_text_of, octets_of};
+ghost use Rattle.giop_ior_text.specs.declared.ior_text_fault.IorTextFault.TheVariants.{NoMemory};
+ghost use Rattle.giop_ior_text.specs.IorText.{ior_text_of, octets_of};
 ghost use Rattle.giop_c.specs.MadeReferences.{ReadsOctets, WritesProfile, WritesReference, WritesText, profile_at};
 ghost use Rattle.giop_c.specs.References.{ReadsTypeId};
 
@@ -16,7 +16,7 @@ use crate::end_records::EndFault;
 use crate::status::{FAULT, NO_MEMORY};
 use giop_cdr::{EncodeFault, OctetList};
 use giop_ior::{IiopProfile, Ior, Sequence, TaggedProfile, iiop_profile, ior_from_text};
-use giop_types::{IorTextFault, ior_octets_from_text, ior_octets_to_text};
+use giop_ior_text::{IorTextFault, ior_octets_from_text, ior_octets_to_text};
 use std::alloc::{AllocError, Global};
 
 /// Copies the octets of an IIOP profile of version 1 and this minor version, without components:
@@ -186,7 +186,7 @@ fn read_octets(alloc: Global, text: &[u8]) -> Result<(Ior, Vec<u8>), IorTextFaul
 }
 
 // The octets that a text says.
-#[tactic(auto, unfolding(giop_types::specs::IorText::ior_text_of))]
+#[tactic(auto, unfolding(giop_ior_text::specs::IorText::ior_text_of))]
 fn octets_said(alloc: Global, text: &[u8]) -> Result<Vec<u8>, IorTextFault>
     ensures ok { IfOk result (λ octets. octets_of text.now ≡ Ok octets.items) }
     ensures err { IfErr result (λ e. (ior_text_of ior_layout.read text.now ≡ Err e)

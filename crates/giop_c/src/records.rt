@@ -5,8 +5,8 @@ ghost use Rattle.giop_c.specs.Interfaces.{c_text_fault, description_number};
 ghost use Rattle.giop_c.specs.Records.{c_fault, c_message, has_id, id_told};
 
 use giop_cdr::CdrFault;
+use giop_json::FormFault;
 use giop_msg::{Msg, WireFault};
-use giop_types::FormFault;
 
 /// What the header of a message says, and its request id, as C sees it: `giop_message`.
 #[repr(C)]

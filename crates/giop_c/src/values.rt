@@ -14,8 +14,9 @@ use crate::json_values::{values_from_text, values_to_text};
 use crate::status::{FAULT, NO_MEMORY};
 use crate::value_form::ValueForm;
 use giop_cdr::EncodeFault;
+use giop_json::FormFault;
 use giop_msg::{values_from_octets, values_to_octets};
-use giop_types::{FormFault, Parameter, Value, ValueList};
+use giop_types::{Parameter, Value, ValueList};
 use std::alloc::Global;
 
 /// The values of parameters that octets are in a form, with nothing behind them.

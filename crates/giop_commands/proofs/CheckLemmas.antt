@@ -7,7 +7,7 @@ use Rattle.giop_msg.specs.declared.msg.Msg.{Msg}
 use Rattle.giop_msg.specs.Msg.{message_octets}
 use Rattle.giop_msg.specs.Stream.{TakesMessage, Unread, Waits}
 use Rattle.giop_msg.proofs.StreamLemmas.{fault_stands, length-message_octets}
-use Rattle.giop_types.specs.declared.json.interface.Interface.{Interface}
+use Rattle.giop_types.specs.declared.interfaces.interface.Interface.{Interface}
 use Rattle.giop_end.specs.declared.limits.Limits.{Limits}
 use Rattle.giop_end.specs.declared.session_fault.SessionFault.{SessionFault}
 use Rattle.giop_end.specs.declared.session_fault.SessionFault.TheVariants.{NoMemory}
@@ -20,7 +20,7 @@ use Rattle.giop_table.specs.CallTable.{Held}
 use Rattle.giop_show.specs.declared.failure.Failure.{Failure}
 use Rattle.giop_show.specs.declared.status.Status.{Status}
 use Rattle.giop_show.specs.declared.status.Status.TheVariants.{Done, Refused, LimitPassed, Usage, InputOutput, Memory}
-use Rattle.giop_types.specs.declared.json.number_form.NumberForm.TheVariants.{Plain}
+use Rattle.giop_json.specs.declared.number_form.NumberForm.TheVariants.{Plain}
 use Rattle.giop_forms.specs.declared.line_form.LineForm.{LineForm}
 use Rattle.giop_forms.specs.declared.line_form.LineForm.TheVariants.{Text}
 use Rattle.giop_commands.specs.Check.{Checks, ChecksKnown, HeardKnown, Hears, IsChecked, last_status, nothing_read, server_hears, strict_status}

@@ -6,10 +6,10 @@ use Rattle.std.specs.Io.KnownBytes.{Appends}
 use Rattle.giop_ids.specs.ById.{ById}
 use Rattle.giop_msg.specs.declared.msg.Msg.{Msg}
 use Rattle.giop_msg.specs.Stream.{Unread}
-use Rattle.giop_types.specs.declared.json.form_fault.FormFault.{FormFault}
-use Rattle.giop_types.specs.declared.json.interface.Interface.{Interface}
-use Rattle.giop_types.specs.JsonForms.DescFromJson.{json_in}
-use Rattle.giop_types.specs.JsonForms.InterfaceFromJson.{interface_told, interface_view}
+use Rattle.giop_json.specs.declared.form_fault.FormFault.{FormFault}
+use Rattle.giop_types.specs.declared.interfaces.interface.Interface.{Interface}
+use Rattle.giop_json.specs.DescFromJson.{json_in}
+use Rattle.giop_json.specs.InterfaceFromJson.{interface_told, interface_view}
 use Rattle.giop_calls.specs.declared.server.entry.ServerEntry.{ServerEntry}
 use Rattle.giop_calls.specs.declared.server.entry.ServerEntry.TheVariants.{Undecoded}
 use Rattle.giop_calls.specs.declared.server.rule.ServerRule.{ServerRule}
@@ -28,7 +28,7 @@ use Rattle.giop_show.specs.declared.status.Status.{Status}
 use Rattle.giop_show.specs.declared.status.Status.TheVariants.{Done, Refused, InputOutput, Memory}
 use Rattle.giop_lines.specs.declared.refusal.RefusalLine.TheVariants.{Form}
 use Rattle.giop_forms.specs.declared.line_form.LineForm.{LineForm}
-use Rattle.giop_types.specs.declared.json.number_form.NumberForm.TheVariants.{Plain}
+use Rattle.giop_json.specs.declared.number_form.NumberForm.TheVariants.{Plain}
 use Rattle.giop_forms.specs.declared.line_form.LineForm.TheVariants.{Text}
 use Rattle.giop_show.specs.Forms.{ended, refused_in}
 use Rattle.giop_commands.specs.Session.Faults.Lines.{last_in}

@@ -2,8 +2,8 @@
 //! contract is one of them; the bodies are empty, and no program calls them.
 ghost use Rattle.std.specs.Prelude.{◌≡◌, [], Ok, Err, Some};
 ghost use Rattle.std.specs.Io.KnownBytes.{Appends};
-ghost use Rattle.giop_types.specs.JsonForms.DescFromJson.{json_in};
-ghost use Rattle.giop_types.specs.JsonForms.InterfaceFromJson.{interface_told, interface_view};
+ghost use Rattle.giop_json.specs.DescFromJson.{json_in};
+ghost use Rattle.giop_json.specs.InterfaceFromJson.{interface_told, interface_view};
 ghost use Rattle.giop_calls.specs.declared.server.entry.ServerEntry.{ServerEntry};
 ghost use Rattle.giop_calls.specs.declared.server.event.ServerEvent.TheVariants as event;
 ghost use Rattle.giop_calls.specs.declared.server.rule.ServerRule.{ServerRule};

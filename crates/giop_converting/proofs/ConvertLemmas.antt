@@ -9,21 +9,21 @@ use Rattle.std.specs.Io.KnownBytes.{Appends}
 use Rattle.giop_ior.specs.declared.references.tagged_profile.TaggedProfile.{TaggedProfile}
 use Rattle.giop_ior.specs.Ior.{ior_layout}
 use Rattle.giop_ior.proofs.IorTextLemmas.{iors_read}
-use Rattle.giop_types.specs.declared.ior_text_fault.IorTextFault.{IorTextFault}
-use Rattle.giop_types.specs.declared.ior_text_fault.IorTextFault.TheVariants.{NoMemory}
-use Rattle.giop_types.specs.IorText.{ior_text_of}
+use Rattle.giop_ior_text.specs.declared.ior_text_fault.IorTextFault.{IorTextFault}
+use Rattle.giop_ior_text.specs.declared.ior_text_fault.IorTextFault.TheVariants.{NoMemory}
+use Rattle.giop_ior_text.specs.IorText.{ior_text_of}
 use Rattle.giop_show.specs.declared.failure.Failure.{Failure}
 use Rattle.giop_show.specs.declared.status.Status.{Status}
 use Rattle.giop_show.specs.declared.status.Status.TheVariants.{Refused}
 use Rattle.giop_cdr.specs.declared.order.Order.{Order}
 use Rattle.giop_cdr.specs.Reading.Cursor.{Cursor}
 use Rattle.giop_cdr.specs.Reading.Exactness.{Took}
-use Rattle.giop_types.specs.declared.json.form_fault.FormFault.{FormFault}
-use Rattle.giop_types.specs.declared.json.form_fault.FormFault.TheVariants as form
+use Rattle.giop_json.specs.declared.form_fault.FormFault.{FormFault}
+use Rattle.giop_json.specs.declared.form_fault.FormFault.TheVariants as form
 use Rattle.giop_types.specs.Descriptions.Shape.{Shape}
 use Rattle.giop_lines.specs.declared.refusal.RefusalLine.TheVariants as refusal
 use Rattle.giop_types.specs.Coding.Spells.{Spells}
-use Rattle.giop_types.specs.JsonForms.DescFromJson.{json_in, desc_told}
+use Rattle.giop_json.specs.DescFromJson.{json_in, desc_told}
 use Rattle.giop_types.specs.Values.Fits.{are_octets, fits, is_unsigned}
 use Rattle.giop_types.specs.Values.Tree.{Tree}
 use Rattle.giop_types.proofs.Coding.SpelledFits.{shape_fits}

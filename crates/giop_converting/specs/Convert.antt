@@ -22,16 +22,16 @@ use Rattle.giop_ior.specs.CorbalocWriting.{corbaloc_text}
 use Rattle.giop_ior.specs.Iiop.{Profile, iiop_of}
 use Rattle.giop_ior.specs.Ior.{Reference, ior_layout}
 use Rattle.giop_ior.specs.ToIor.{ior_of, are_profiles}
-use Rattle.giop_types.specs.JsonForms.DescFromJson.{json_in, desc_told}
-use Rattle.giop_types.specs.declared.json.form_fault.FormFault.{FormFault}
-use Rattle.giop_types.specs.declared.json.form_fault.FormFault.TheVariants.{BadJson}
-use Rattle.giop_types.specs.declared.ior_text_fault.IorTextFault.{IorTextFault}
+use Rattle.giop_json.specs.DescFromJson.{json_in, desc_told}
+use Rattle.giop_json.specs.declared.form_fault.FormFault.{FormFault}
+use Rattle.giop_json.specs.declared.form_fault.FormFault.TheVariants.{BadJson}
+use Rattle.giop_ior_text.specs.declared.ior_text_fault.IorTextFault.{IorTextFault}
 use Rattle.giop_types.specs.Coding.Decoding.{decode_at}
-use Rattle.giop_types.specs.JsonForms.FromJson.{from_data}
-use Rattle.giop_types.specs.IorText.{IorText, RefusedText}
+use Rattle.giop_json.specs.FromJson.{from_data}
+use Rattle.giop_ior_text.specs.IorText.{IorText, RefusedText}
 use Rattle.giop_types.specs.Descriptions.Shape.{Shape}
-use Rattle.giop_types.specs.declared.json.number_form.NumberForm.{NumberForm}
-use Rattle.giop_types.specs.JsonForms.ToJson.{to_data}
+use Rattle.giop_json.specs.declared.number_form.NumberForm.{NumberForm}
+use Rattle.giop_json.specs.ToJson.{to_data}
 use Rattle.giop_types.specs.Values.Tree.{Tree}
 use Rattle.giop_types.specs.Coding.Written.{value_out}
 use Rattle.giop_lines.specs.declared.refusal.RefusalLine.{RefusalLine}

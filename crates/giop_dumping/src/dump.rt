@@ -3,7 +3,7 @@
 //! them together.
 ghost use Rattle.std.specs.Prelude.{◌≡◌, ◌++◌, [], IfErr, IfOk, OnOk};
 ghost use Rattle.std.specs.Io.KnownBytes.{IsAtEnd};
-ghost use Rattle.giop_types.specs.declared.json.number_form.NumberForm.TheVariants.{Plain};
+ghost use Rattle.giop_json.specs.declared.number_form.NumberForm.TheVariants.{Plain};
 ghost use Rattle.giop_dumping.specs.Dump.Bodies.{telling_of};
 ghost use Rattle.giop_dumping.specs.Dump.Text.{Dumps, DumpsKnown, no_lists};
 ghost use Rattle.giop_dumping.specs.Dump.Heads.{heads_alone};
@@ -19,12 +19,12 @@ pub mod text;
 use crate::dump::messages::write_fault;
 use crate::dump::teller::Teller;
 use giop_forms::LineForm;
+use giop_json::NumberForm;
 use giop_msg::Framer;
 use giop_show::failure::Failure;
 use giop_show::pieces::{PieceBuffer, drain};
 use giop_show::status::Status;
 use giop_show::{BehindFault, write_rest};
-use giop_types::NumberForm;
 use std::alloc::Global;
 use std::io;
 use std::io::{ErrorKind, Read, Write};

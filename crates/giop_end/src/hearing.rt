@@ -23,7 +23,7 @@ use std::alloc::Global;
 /// or is an event of the call of one id.
 pub trait Hearing: Side {
     ghost use Rattle.std.specs.Prelude.{ℕ, Option};
-    ghost use Rattle.giop_types.specs.declared.json.interface.Interface.{Interface};
+    ghost use Rattle.giop_types.specs.declared.interfaces.interface.Interface.{Interface};
     ghost use Rattle.giop_msg.specs.declared.msg.Msg.{Msg};
     ghost use Rattle.giop_table.specs.CallTable.{Act, Call};
     ghost use Rattle.giop_end.specs.declared.session_fault.SessionFault.{SessionFault};

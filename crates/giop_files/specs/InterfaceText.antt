@@ -1,7 +1,7 @@
 -- The text of an interface's file.
 use Rattle.std.specs.Prelude.{ℕ, List, IsErr, option_map, string_bytes, unwrap_or}
-use Rattle.giop_types.specs.JsonForms.DescFromJson.{json_in}
-use Rattle.giop_types.specs.JsonForms.InterfaceFromJson.{interface_told}
+use Rattle.giop_json.specs.DescFromJson.{json_in}
+use Rattle.giop_json.specs.InterfaceFromJson.{interface_told}
 use Rattle.giop_files.specs.declared.files.interface_text.InterfaceText.{InterfaceText}
 
 -- as it was given

@@ -1,8 +1,8 @@
 -- Where a refused text is at fault, as giop_where tells it.
 use Rattle.std.specs.Prelude.{◌≡◌, ◌⊎◌, ℕ, List, ◌∷◌, Some, map}
 use Rattle.serde_json.specs.Data.{Data}
-use Rattle.giop_types.specs.declared.json.form_fault.FormFault.{FormFault}
-use Rattle.giop_types.specs.JsonForms.DescFromJson.{json_in}
+use Rattle.giop_json.specs.declared.form_fault.FormFault.{FormFault}
+use Rattle.giop_json.specs.DescFromJson.{json_in}
 use Rattle.giop_where.specs.declared.place.Place.{Place}
 use Rattle.giop_where.specs.declared.role.Role.{Role}
 use Rattle.giop_where.specs.Alone.{fault_code}

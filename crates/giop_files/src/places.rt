@@ -10,7 +10,7 @@ pub mod parts;
 
 use crate::files::interface_text::InterfaceText;
 use crate::places::names::path_in_file;
-use giop_types::{FormFault, parse_json};
+use giop_json::{FormFault, parse_json};
 use giop_where::{Part, Place, Role, fault_code};
 use serde_json::Value as Json;
 use std::alloc::Global;

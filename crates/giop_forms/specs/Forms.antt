@@ -1,5 +1,5 @@
 -- The forms of what a command tells.
-use Rattle.giop_types.specs.declared.json.number_form.NumberForm.{NumberForm}
+use Rattle.giop_json.specs.declared.number_form.NumberForm.{NumberForm}
 use Rattle.giop_forms.specs.declared.line_form.LineForm.{LineForm}
 use Rattle.giop_forms.specs.declared.line_form.LineForm.TheVariants.{Text, Json}
 

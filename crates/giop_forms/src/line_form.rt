@@ -1,7 +1,7 @@
 //! The two forms in which a command tells what it read: lines of text, or lines of JSON.
 ghost use Rattle.std.specs.Prelude.{◌≡◌};
 
-use giop_types::NumberForm;
+use giop_json::NumberForm;
 
 /// The form of a line, and that of the whole numbers in the values of one.
 #[derive(Clone, Copy, Debug, PartialEq, Eq)]

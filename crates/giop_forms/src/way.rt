@@ -1,6 +1,6 @@
 //! Which way `convert` goes.
 
-use giop_types::NumberForm;
+use giop_json::NumberForm;
 
 /// Which way a value is converted, between JSON and octets.
 #[derive(Clone, Copy, Debug, PartialEq, Eq)]

@@ -1,4 +1,4 @@
--- A reference as text: its grammar is that of giop_types, over the table of a reference.
+-- A reference as text: its grammar is that of giop_ior_text, over the table of a reference.
 use Rattle.std.proofs.Common.{◌≡◌, ℕ, ◌<◌, true, List, [], ◌∷◌, ◌++◌, Ok, Err, IfOk, inl, inr, refl, ap, subst, ◌∙◌, lit<}
 use Rattle.std.proofs.lemmas.List.Elements.{All-cons, All-nil, All-tail}
 use Rattle.std.specs.Int.{w8}
@@ -6,11 +6,11 @@ use Rattle.giop_cdr.specs.declared.order.Order.TheVariants.{Big}
 use Rattle.giop_cdr.specs.Encapsulation.Opened.{order_octet}
 use Rattle.giop_cdr.specs.Layout.{Layout, IsLawful, AreOctets}
 use Rattle.giop_cdr.specs.Writing.Output.{Output, number_out}
-use Rattle.giop_types.specs.IorText.{IorText, ior_text_of, ReadsTexts, begun, prefixed, text_written}
-use Rattle.giop_types.specs.IorTextFault.{TextReading, AnswersOrWants, IsAnswered}
+use Rattle.giop_ior_text.specs.IorText.{IorText, ior_text_of, ReadsTexts, begun, prefixed, text_written}
+use Rattle.giop_ior_text.specs.IorTextFault.{TextReading, AnswersOrWants, IsAnswered}
 use Rattle.giop_cdr.proofs.LayoutLemmas.{octets_of_whole}
-use Rattle.giop_types.proofs.HexLemmas.{are_octets_said}
-use Rattle.giop_types.proofs.IorTextLemmas.{texts_read, value_written}
+use Rattle.giop_ior_text.proofs.HexLemmas.{are_octets_said}
+use Rattle.giop_ior_text.proofs.IorTextLemmas.{texts_read, value_written}
 use Rattle.giop_ior.specs.Ior.{Reference, ior_layout}
 use Rattle.giop_ior.specs.Written.{IsOfOctets}
 use Rattle.giop_ior.proofs.IorLemmas.{ior_is}

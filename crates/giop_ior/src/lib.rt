@@ -12,7 +12,7 @@ pub use addresses::corbaloc::Corbaloc;
 pub use addresses::corbaloc_fault::{CorbalocFault, CorbalocKind};
 pub use addresses::corbaloc_reading::corbaloc_from_text;
 pub use addresses::corbaloc_writing::corbaloc_to_text;
-pub use giop_types::IorTextFault;
+pub use giop_ior_text::IorTextFault;
 pub use references::iiop_reading::{iiop_view, profile_body};
 pub use references::iiop_writing::iiop_profile;
 pub use references::ior::{Ior, IorAt};

@@ -7,8 +7,8 @@ use Rattle.giop_ior.specs.declared.addresses.corbaloc_fault.CorbalocFault.{Corba
 use Rattle.giop_ior.specs.declared.references.tagged_profile.TaggedProfile.{TaggedProfile}
 use Rattle.giop_ior.specs.CorbalocFault.{corbaloc_kind_number, corbaloc_kind_name}
 use Rattle.giop_ior.specs.Iiop.{Profile}
-use Rattle.giop_types.specs.declared.ior_text_fault.IorTextFault.{IorTextFault}
-use Rattle.giop_types.specs.IorTextFault.{ior_text_fault_number, ior_text_fault_name}
+use Rattle.giop_ior_text.specs.declared.ior_text_fault.IorTextFault.{IorTextFault}
+use Rattle.giop_ior_text.specs.IorTextFault.{ior_text_fault_number, ior_text_fault_name}
 use Rattle.giop_lines.specs.declared.refusal.RefusalLine.{RefusalLine}
 use Rattle.giop_lines.specs.declared.refusal.RefusalLine.TheVariants.{IorText, Corbaloc, Reference, Form, BadHex, Octets, NoIiopProfile}
 use Rattle.giop_lines.specs.ConvertLines.{version_text}

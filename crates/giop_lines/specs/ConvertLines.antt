@@ -5,8 +5,8 @@ use Rattle.giop_cdr.specs.Faults.{cdr_kind_number, cdr_kind_name, encode_fault_n
 use Rattle.giop_ior.specs.declared.references.tagged_profile.TaggedProfile.{TaggedProfile}
 use Rattle.giop_ior.specs.CorbalocFault.{corbaloc_kind_number, corbaloc_kind_name}
 use Rattle.giop_ior.specs.Iiop.{Profile}
-use Rattle.giop_types.specs.JsonForms.FormFault.{form_fault_number, form_fault_name}
-use Rattle.giop_types.specs.IorTextFault.{ior_text_fault_number, ior_text_fault_name}
+use Rattle.giop_json.specs.FormFault.{form_fault_number, form_fault_name}
+use Rattle.giop_ior_text.specs.IorTextFault.{ior_text_fault_number, ior_text_fault_name}
 use Rattle.giop_lines.specs.declared.refusal.RefusalLine.{RefusalLine}
 use Rattle.giop_lines.specs.declared.refusal.RefusalLine.TheVariants.{IorText, Corbaloc, Reference, Form, BadHex, Octets, NoIiopProfile}
 use Rattle.giop_lines.specs.Octets.{hex_text, escaped_text}

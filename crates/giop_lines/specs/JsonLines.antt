@@ -10,8 +10,8 @@ use Rattle.giop_msg.specs.declared.messages.request_fault.RequestFault.TheVarian
 use Rattle.giop_msg.specs.declared.target.Target.TheVariants.{Key, Profile, Reference}
 use Rattle.giop_msg.specs.Fault.{wire_kind_number, wire_kind_name}
 use Rattle.giop_msg.specs.Target.{AnyTarget}
-use Rattle.giop_types.specs.declared.json.form_fault.FormFault.{FormFault}
-use Rattle.giop_types.specs.JsonForms.FormFault.{form_fault_name, form_fault_number}
+use Rattle.giop_json.specs.declared.form_fault.FormFault.{FormFault}
+use Rattle.giop_json.specs.FormFault.{form_fault_name, form_fault_number}
 use Rattle.giop_lines.specs.Octets.{hex_text}
 
 -- an octet is printable ASCII

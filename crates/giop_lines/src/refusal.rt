@@ -2,7 +2,7 @@
 //! and of `refusal_line` in specs/ConvertLines.antt.
 use giop_cdr::{CdrFault, EncodeFault};
 use giop_ior::{CorbalocFault, IorTextFault};
-use giop_types::FormFault;
+use giop_json::FormFault;
 use std::fmt;
 
 /// A refusal of what is to be converted, or called by, in one line: `fault NUMBER NAME`, with

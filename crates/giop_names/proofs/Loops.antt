@@ -4,7 +4,7 @@ use Rattle.std.proofs.Math.ListN.{drop_of_length-le}
 use Rattle.serde_json.specs.Data.{Data, Items, item, no_items, Members, member, no_members}
 use Rattle.serde_json.specs.View.{view, items_view}
 use Rattle.serde_json.specs.declared.value.Value.{Value as Json}
-use Rattle.giop_types.specs.declared.json.form_fault.FormFault.{FormFault}
+use Rattle.giop_json.specs.declared.form_fault.FormFault.{FormFault}
 use Rattle.giop_names.specs.Plain.{Made, behind, each_item, each_member, member_at}
 use Rattle.giop_names.specs.Scopes.{is_left_out}
 use Rattle.giop_names.specs.declared.scope.Scope.{Scope}

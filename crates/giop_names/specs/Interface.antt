@@ -3,8 +3,8 @@ use Rattle.std.specs.Prelude.{ℕ, codes, if◌then◌else◌, List, Option, Som
 use Rattle.std.specs.Prelude.{option_and_then, unwrap_or, Result, Ok, Err}
 use Rattle.serde_json.specs.Data.{Data, null}
 use Rattle.serde_json.specs.Find.{get, as_str}
-use Rattle.giop_types.specs.declared.json.form_fault.FormFault.{FormFault}
-use Rattle.giop_types.specs.declared.json.form_fault.FormFault.TheVariants.{BadJson, BadShape}
+use Rattle.giop_json.specs.declared.form_fault.FormFault.{FormFault}
+use Rattle.giop_json.specs.declared.form_fault.FormFault.TheVariants.{BadJson, BadShape}
 use Rattle.giop_where.specs.Shallow.{shallow}
 use Rattle.giop_names.specs.Beside.{is_lawful}
 use Rattle.giop_names.specs.Plain.{Made, plain_at}

@@ -4,8 +4,8 @@ use Rattle.std.specs.Prelude.{Option, Some, None, Result, Ok, Err}
 use Rattle.serde_json.specs.Data.{Data, array, object, Items, item, no_items}
 use Rattle.serde_json.specs.Data.{Members, member, no_members}
 use Rattle.serde_json.specs.Find.{get}
-use Rattle.giop_types.specs.declared.json.form_fault.FormFault.{FormFault}
-use Rattle.giop_types.specs.declared.json.form_fault.FormFault.TheVariants.{BadShape, Unfit, NoMemory}
+use Rattle.giop_json.specs.declared.form_fault.FormFault.{FormFault}
+use Rattle.giop_json.specs.declared.form_fault.FormFault.TheVariants.{BadShape, Unfit, NoMemory}
 use Rattle.giop_names.specs.Scopes.{is_left_out, scope_at, scope_under, name_in, text_in}
 use Rattle.giop_names.specs.declared.scope.Scope.{Scope}
 use Rattle.giop_names.specs.declared.scope.Scope.TheVariants as is

@@ -2,14 +2,14 @@
 ghost use Rattle.std.specs.Prelude.{◌≡◌, string_bytes, option_map, Ok};
 ghost use Rattle.serde_json.specs.Data.{null};
 ghost use Rattle.serde_json.specs.View.{view};
-ghost use Rattle.giop_types.specs.JsonForms.DescFromJson.{json_in};
-ghost use Rattle.giop_types.specs.JsonForms.FromJson.{Reads};
+ghost use Rattle.giop_json.specs.DescFromJson.{json_in};
+ghost use Rattle.giop_json.specs.FromJson.{Reads};
 ghost use Rattle.giop_names.specs.Interface.{types_of, plain_of, readable, plain_told, told, id_told};
 
 use crate::beside::is_lawful;
 use crate::rewriting::plain_part;
 use crate::scope::Scope;
-use giop_types::{FormFault, parse_json};
+use giop_json::{FormFault, parse_json};
 use giop_where::is_shallow;
 use serde_json::Value as Json;
 use std::alloc::Global;
@@ -21,7 +21,7 @@ const LEVELS: u32 = 256;
 /// and texts.
 const ROOM: usize = 1_000_000;
 
-/// The text of the plain form of an interface file, which `Interface::from_json` reads.
+/// The text of the plain form of an interface file, which `interface_from_json` reads.
 pub fn plain_interface(alloc: Global, text: &[u8]) -> Result<String, FormFault>
     ensures { Reads (λ plain. json_in (string_bytes plain)) result
         (told (plain_told (json_in text.now))) }

@@ -1,5 +1,5 @@
 //! Interface files in which types have names (docs/FORMATS.md): the plain form of such a file, in
-//! which each name stands no more, but what it stands for. `Interface::from_json` of giop_types
+//! which each name stands no more, but what it stands for. `interface_from_json` of giop_json
 //! reads that.
 #![tactic(auto)]
 

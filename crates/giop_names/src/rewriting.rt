@@ -8,7 +8,7 @@ ghost use Rattle.giop_names.specs.Plain.{Refuses, plain_at, by_name, stands_for,
 use crate::naming::{name_in, text_in};
 use crate::room::spend;
 use crate::scope::{Scope, is_left_out, scope_at, scope_under};
-use giop_types::FormFault;
+use giop_json::FormFault;
 use serde_json::{Map, Value as Json};
 use std::alloc::Global;
 

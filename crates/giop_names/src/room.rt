@@ -3,7 +3,7 @@ ghost use Rattle.std.specs.Prelude.{◌≡◌, Ok, OnOk};
 ghost use Rattle.giop_names.specs.Plain.{Refuses, spent};
 
 use crate::scope::Scope;
-use giop_types::FormFault;
+use giop_json::FormFault;
 
 /// Takes one, and as much as a text has octets, of the room: where a name stands for what this is a
 /// part of. Refused as Unfit where the room is less.

@@ -1,7 +1,7 @@
 -- The statuses of what is converted.
 use Rattle.std.proofs.Common.{refl, inl, inr, ℕ, List, Option, Result, Ok, Err, IfOk}
 use Rattle.giop_cdr.specs.declared.order.Order.{Order}
-use Rattle.giop_types.specs.declared.json.number_form.NumberForm.{NumberForm}
+use Rattle.giop_json.specs.declared.number_form.NumberForm.{NumberForm}
 use Rattle.giop_types.specs.Descriptions.Shape.{Shape}
 use Rattle.giop_forms.specs.declared.line_form.LineForm.{LineForm}
 use Rattle.giop_forms.specs.declared.way.Way.{Way}

@@ -2,7 +2,7 @@
 use Rattle.std.proofs.Common.{ℕ, List, codes}
 use Rattle.std.proofs.lemmas.Str.{IsAscii-append}
 use Rattle.std.specs.Str.{IsAscii}
-use Rattle.giop_types.specs.IorText.{prefixed}
+use Rattle.giop_ior_text.specs.IorText.{prefixed}
 use Rattle.giop_lines.proofs.OctetsLemmas.{IsAscii-encode_lower, IsAscii-ior}
 
 -- the text of a reference has ASCII characters alone

@@ -1,11 +1,11 @@
 -- What the bodies of messages hold, as text: values as JSON, each by its description.
 use Rattle.std.specs.Prelude.{ℕ, List, [], Option, Some, None, codes, if◌then◌else◌}
-use Rattle.giop_types.specs.declared.json.interface.Interface.{Interface}
-use Rattle.giop_types.specs.declared.json.interface.Operation.{Operation}
-use Rattle.giop_types.specs.declared.json.parameters.Parameter.{Parameter}
-use Rattle.giop_types.specs.declared.json.number_form.NumberForm.{NumberForm}
-use Rattle.giop_types.specs.IorText.{text_written}
-use Rattle.giop_types.specs.JsonForms.ValuesText.{values_text}
+use Rattle.giop_types.specs.declared.interfaces.interface.Interface.{Interface}
+use Rattle.giop_types.specs.declared.interfaces.interface.Operation.{Operation}
+use Rattle.giop_types.specs.declared.interfaces.parameters.Parameter.{Parameter}
+use Rattle.giop_json.specs.declared.number_form.NumberForm.{NumberForm}
+use Rattle.giop_ior_text.specs.IorText.{text_written}
+use Rattle.giop_json.specs.ValuesText.{values_text}
 use Rattle.giop_ior.specs.Ior.{Reference, ior_layout}
 use Rattle.giop_msg.specs.declared.messages.reply_body.ReplyBody.{ReplyBody}
 use Rattle.giop_msg.specs.declared.messages.reply_body.ReplyBody.TheVariants.{NoException, UserException, SystemException, Forward, ForwardPerm, NeedsAddressing}

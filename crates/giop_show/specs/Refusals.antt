@@ -1,6 +1,6 @@
 -- How texts that are refused are reported.
-use Rattle.giop_types.specs.declared.ior_text_fault.IorTextFault.{IorTextFault}
-use Rattle.giop_types.specs.declared.ior_text_fault.IorTextFault.TheVariants.{Cdr}
+use Rattle.giop_ior_text.specs.declared.ior_text_fault.IorTextFault.{IorTextFault}
+use Rattle.giop_ior_text.specs.declared.ior_text_fault.IorTextFault.TheVariants.{Cdr}
 use Rattle.giop_lines.specs.declared.refusal.RefusalLine.{RefusalLine}
 use Rattle.giop_lines.specs.declared.refusal.RefusalLine.TheVariants as refusal
 

@@ -3,15 +3,16 @@
 ghost use Rattle.std.specs.Prelude.{◌≡◌, map, IfOk};
 ghost use Rattle.std.specs.String.{string_bytes};
 ghost use Rattle.giop_types.specs.Values.Views.{value_view};
-ghost use Rattle.giop_types.specs.JsonForms.ValuesText.{values_text};
+ghost use Rattle.giop_json.specs.ValuesText.{values_text};
 ghost use Rattle.giop_msg.specs.Messages.Reply.{exception_in, listed, outs_of};
 ghost use Rattle.giop_msg.specs.Messages.Request.{operation_asked};
 ghost use Rattle.giop_show.specs.Bodies.{brought_by, forward_text, request_ins};
 
 use giop_cdr::{EncodeFault, OctetList};
 use giop_ior::{Ior, ior_to_text};
+use giop_json::{NumberForm, values_to_text};
 use giop_msg::{ReplyBody, Request};
-use giop_types::{Interface, NumberForm, Offer, Value, values_to_text};
+use giop_types::{Interface, Offer, Value};
 use percent_encoding::ascii_str;
 use std::alloc::{AllocError, Global};
 

@@ -1,13 +1,14 @@
 //! The lines of texts that are refused, by their faults.
 ghost use Rattle.std.specs.Prelude.{◌≡◌, ◌≢◌, IfErr, IfOk, OnOk};
-ghost use Rattle.giop_types.specs.declared.ior_text_fault.IorTextFault.TheVariants as ior;
-ghost use Rattle.giop_types.specs.declared.json.form_fault.FormFault.TheVariants as form;
+ghost use Rattle.giop_ior_text.specs.declared.ior_text_fault.IorTextFault.TheVariants as ior;
+ghost use Rattle.giop_json.specs.declared.form_fault.FormFault.TheVariants as form;
 ghost use Rattle.giop_show.specs.declared.failure.Failure.TheVariants.{Memory};
 ghost use Rattle.giop_show.specs.Refusals.{ior_refusal};
 
 use crate::failure::Failure;
+use giop_ior_text::IorTextFault;
+use giop_json::FormFault;
 use giop_lines::RefusalLine;
-use giop_types::{FormFault, IorTextFault};
 
 /// The line of a refused description or value in JSON. NoMemory has no line: it is a failure.
 pub fn form_refusal(fault: FormFault) -> Result<RefusalLine, Failure>

@@ -6,7 +6,7 @@ use Rattle.giop_trace.specs.declared.direction.Direction.{Direction}
 use Rattle.giop_trace.specs.declared.direction.Direction.TheVariants.{Client, Server}
 use Rattle.giop_trace.specs.declared.flow.Flow.{Flow}
 use Rattle.giop_trace.specs.Observing.{Brought, heard as heard_of, is_early, left, left_of_all}
-use Rattle.giop_types.specs.declared.json.interface.Interface.{Interface}
+use Rattle.giop_types.specs.declared.interfaces.interface.Interface.{Interface}
 use Rattle.giop_forms.specs.declared.line_form.LineForm.{LineForm}
 use Rattle.giop_tracing.specs.Trace.Order.{IsOrder, NoneIsEarly, NoneWaits, all_told, clients, of_client, of_server, servers}
 use Rattle.giop_tracing.specs.Trace.Text.{Turn, behind, both_turn, heard_lines, server_turn}

@@ -12,7 +12,7 @@ use Rattle.giop_trace.specs.declared.direction.Direction.{Direction}
 use Rattle.giop_trace.specs.declared.direction.Direction.TheVariants.{Client, Server}
 use Rattle.giop_trace.specs.declared.flow.Flow.{Flow}
 use Rattle.giop_trace.specs.Observing.{heard as heard_of, is_early, left}
-use Rattle.giop_types.specs.declared.json.interface.Interface.{Interface}
+use Rattle.giop_types.specs.declared.interfaces.interface.Interface.{Interface}
 use Rattle.giop_forms.specs.declared.line_form.LineForm.{LineForm}
 use Rattle.giop_forms.specs.declared.line_form.LineForm.TheVariants as form
 use Rattle.giop_show.specs.Forms.{ended}

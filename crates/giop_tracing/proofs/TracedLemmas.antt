@@ -1,8 +1,8 @@
 -- Texts of the lines of `trace`.
 use Rattle.std.proofs.Common.{◌≡◌, ℕ, false, List, Option, Some, Ok, refl}
 use Rattle.giop_tracing.specs.declared.trace.call_line.Unanswered.{Unanswered}
-use Rattle.giop_types.specs.declared.json.interface.Interface.{Interface}
-use Rattle.giop_types.specs.declared.json.number_form.NumberForm.{NumberForm}
+use Rattle.giop_types.specs.declared.interfaces.interface.Interface.{Interface}
+use Rattle.giop_json.specs.declared.number_form.NumberForm.{NumberForm}
 use Rattle.giop_msg.specs.declared.messages.completion.Completion.{Completion}
 use Rattle.giop_msg.specs.declared.messages.reply_body.ReplyBody.{ReplyBody}
 use Rattle.giop_msg.specs.declared.messages.reply_body.ReplyBody.TheVariants.{NoException, UserException, SystemException, Forward, ForwardPerm, NeedsAddressing}

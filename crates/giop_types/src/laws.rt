@@ -1,16 +1,9 @@
 //! Laws of the definitions that contracts cite. Each function's contract is one of them, and no
 //! program calls these.
 mod at_once;
-mod ior_texts;
-mod json;
 mod values;
 
 pub use at_once::longs_at_once_are_items;
-pub use ior_texts::{ior_texts_are_read, written_ior_texts_are_read_back};
-pub use json::{
-    json_gives_descriptions_back, json_gives_interfaces_back, json_gives_values_back,
-    what_is_read_as_json_is_written_so, written_and_read_as_json,
-};
 pub use values::{
     descriptions_are_checked_node_by_node, encoded_and_decoded, equal_values_are_the_same,
     leaves_count_every_part, spelled_values_fit, values_are_bounded, values_are_spelled,

@@ -12,9 +12,9 @@ ghost use Rattle.giop_types.specs.Objects.{offer_of};
 
 use crate::codec::skip::skip;
 use crate::description::checked_desc::CheckedDesc;
-use crate::json::interface::{Interface, Operation};
-use crate::json::offer::Offer;
-use crate::json::parameters::Parameters;
+use crate::interfaces::interface::{Interface, Operation};
+use crate::interfaces::offer::Offer;
+use crate::interfaces::parameters::Parameters;
 use giop_cdr::{CdrFault, CdrIn, Octets};
 use std::collections::BTreeMap;
 

@@ -5,8 +5,8 @@ use Rattle.std.proofs.lemmas.Str.{IsUtf8-string_bytes}
 use Rattle.std.proofs.Math.Nat.{max-le}
 use Rattle.std.specs.declared.alloc.Global.{Global}
 use Rattle.serde_json.specs.Read.{read, max_depth}
-use Rattle.giop_types.specs.JsonForms.DescFromJson.{json_in}
-use Rattle.giop_types.proofs.JsonForms.ParseLemmas.{parsed}
+use Rattle.giop_json.specs.DescFromJson.{json_in}
+use Rattle.giop_json.proofs.ParseLemmas.{parsed}
 use Rattle.giop_where.specs.Shallow.{shallow, items_shallow, members_shallow}
 
 -- two tests that both hold

@@ -1,16 +1,16 @@
--- A part that stands alone: the smallest file that holds it, and how giop_types refuses that
+-- A part that stands alone: the smallest file that holds it, and how giop_json refuses that
 -- (docs/FORMATS.md).
 use Rattle.std.specs.Prelude.{ℕ, ◌+◌, codes, List, Some, Result, Ok, Err}
 use Rattle.serde_json.specs.Data.{Data, array, object, string, item, no_items, put, no_members}
-use Rattle.giop_types.specs.declared.json.form_fault.FormFault.{FormFault}
-use Rattle.giop_types.specs.declared.json.form_fault.FormFault.TheVariants.{BadDesc}
+use Rattle.giop_json.specs.declared.form_fault.FormFault.{FormFault}
+use Rattle.giop_json.specs.declared.form_fault.FormFault.TheVariants.{BadDesc}
 use Rattle.giop_types.specs.Descriptions.DescFaults.{desc_fault_number}
 use Rattle.giop_types.specs.Descriptions.Shape.{Shape}
 use Rattle.giop_types.specs.Values.Tree.{Tree}
-use Rattle.giop_types.specs.JsonForms.FormFault.{form_fault_number}
-use Rattle.giop_types.specs.JsonForms.FromJson.{from_data}
-use Rattle.giop_types.specs.JsonForms.DescFromJson.{desc_told}
-use Rattle.giop_types.specs.JsonForms.InterfaceFromJson.{interface_told}
+use Rattle.giop_json.specs.FormFault.{form_fault_number}
+use Rattle.giop_json.specs.FromJson.{from_data}
+use Rattle.giop_json.specs.DescFromJson.{desc_told}
+use Rattle.giop_json.specs.InterfaceFromJson.{interface_told}
 use Rattle.giop_where.specs.declared.role.Role.{Role}
 use Rattle.giop_where.specs.declared.role.Role.TheVariants as is
 use Rattle.giop_where.specs.Parts.{Portion}

@@ -5,7 +5,7 @@ use Rattle.serde_json.specs.Data as json
 use Rattle.serde_json.specs.Data.{Data}
 use Rattle.serde_json.specs.Find.{at, get, as_array}
 use Rattle.serde_json.specs.View.{view}
-use Rattle.giop_types.specs.JsonForms.DescFromJson.{by_key, pair_in}
+use Rattle.giop_json.specs.DescFromJson.{by_key, pair_in}
 use Rattle.giop_where.specs.declared.part.Part.{Part}
 use Rattle.giop_where.specs.declared.role.Role.{Role}
 use Rattle.giop_where.specs.declared.role.Role.TheVariants as is

@@ -1,5 +1,5 @@
 //! How a part that stands alone is refused: `alone` in specs/Alone.antt. The judges are those of
-//! giop_types.
+//! giop_json.
 ghost use Rattle.std.specs.Prelude.{◌≡◌, IfOk};
 ghost use Rattle.serde_json.specs.View.{view};
 ghost use Rattle.giop_where.specs.Alone.{alone, fault_code, desc_refusal, interface_refusal, value_refusal};
@@ -10,7 +10,8 @@ use crate::no_place::NoPlace;
 use crate::part::Part;
 use crate::role::Role;
 use crate::texts::text_of;
-use giop_types::{DescFault, FormFault, Interface, desc_from_json, value_from_json};
+use giop_json::{FormFault, desc_from_json, interface_from_json, value_from_json};
+use giop_types::{DescFault, Interface};
 use serde_json::Value as Json;
 use std::alloc::Global;
 
@@ -61,7 +62,7 @@ fn interface_refusal(alloc: Global, file: &Json) -> Result<u8, NoPlace>
     ensures { IfOk result (λ number. number ≡ interface_refusal (view file.now)) }
 {
     let text = text_of(alloc, file)?;
-    match Interface::from_json(alloc, text.as_bytes()) {
+    match interface_from_json(alloc, text.as_bytes()) {
         Ok(_) => Ok(0),
         Err(FormFault::NoMemory) => Err(NoPlace::Memory),
         Err(fault) => Ok(fault_code(fault)),

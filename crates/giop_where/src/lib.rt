@@ -1,5 +1,5 @@
 //! Where a file of an interface, a description or a value is at fault (docs/FORMATS.md): the path
-//! to the first part that giop_types refuses when it stands alone, with the fault of the file.
+//! to the first part that giop_json refuses when it stands alone, with the fault of the file.
 #![tactic(auto)]
 
 mod alone;

@@ -1,7 +1,7 @@
 //! The text of a JSON value, which is read as that value again.
 ghost use Rattle.std.specs.Prelude.{◌≡◌, Some, IfOk, string_bytes};
 ghost use Rattle.serde_json.specs.View.{view};
-ghost use Rattle.giop_types.specs.JsonForms.DescFromJson.{json_in};
+ghost use Rattle.giop_json.specs.DescFromJson.{json_in};
 
 use crate::no_place::NoPlace;
 use crate::shallow::is_shallow;

@@ -3,13 +3,13 @@
 ghost use Rattle.std.specs.Prelude.{◌≡◌, option_map, option_and_then};
 ghost use Rattle.serde_json.specs.Find.{as_array};
 ghost use Rattle.serde_json.specs.View.{view, items_view};
-ghost use Rattle.giop_types.specs.JsonForms.DescFromJson.{pair_in};
+ghost use Rattle.giop_json.specs.DescFromJson.{pair_in};
 ghost use Rattle.giop_where.specs.Parts.{named_in, member_named, disc_under, value_under, value_at, argument_at};
 
 use serde_json::Value as Json;
 
 // The two items of a list.
-#[tactic(auto, using(giop_types::proofs::JsonForms::ParseLemmas::short_pair, giop_types::proofs::JsonForms::ParseLemmas::long_pair))]
+#[tactic(auto, using(giop_json::proofs::ParseLemmas::short_pair, giop_json::proofs::ParseLemmas::long_pair))]
 fn pair_of(json: &Json) -> Option<(&Json, &Json)>
     ensures { option_map (λ pair. (view pair.0.now, view pair.1.now)) result
         ≡ option_and_then pair_in (as_array (view json.now)) }

@@ -1,10 +1,10 @@
 -- The interface of two operations by its text in JSON.
 use Rattle.std.proofs.Common.{◌≡◌, true, Some, Ok, ◌∙◌, refl, sym, ap}
 use Rattle.giop_types.specs.Descriptions.Checked.{desc_fault}
-use Rattle.giop_types.specs.JsonForms.DescToJson.{desc_data, is_sayable, members_data}
-use Rattle.giop_types.specs.JsonForms.InterfaceFromJson.{interface_told, offer_in, offered}
-use Rattle.giop_types.specs.JsonForms.InterfaceToJson.{offer_data, offer_sayable}
-use Rattle.giop_types.specs.JsonForms.Plain.{is_plain}
+use Rattle.giop_json.specs.DescToJson.{desc_data, is_sayable, members_data}
+use Rattle.giop_json.specs.InterfaceFromJson.{interface_told, offer_in, offered}
+use Rattle.giop_json.specs.InterfaceToJson.{offer_data, offer_sayable}
+use Rattle.giop_json.specs.Plain.{is_plain}
 use Rattle.laws_in_use.specs.InJson.{adding, adding_told}
 
 pub adding_sayable : offer_sayable adding ≡ true

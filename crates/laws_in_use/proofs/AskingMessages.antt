@@ -1,6 +1,6 @@
 -- The messages by which a client is answered: they are messages, and what they come to.
 use Rattle.std.proofs.Common.{◌≡◌, ◌++◌, drop, Some, Ok, Err, refl, arith}
-use Rattle.giop_types.specs.declared.json.interface.Interface.{Interface}
+use Rattle.giop_types.specs.declared.interfaces.interface.Interface.{Interface}
 use Rattle.giop_cdr.specs.Ending.{leads, made_of, remainder}
 use Rattle.giop_cdr.specs.Layout.{number, such, field, gives, chosen}
 use Rattle.giop_cdr.specs.Reading.Values.{field_at, number_at, such_at}

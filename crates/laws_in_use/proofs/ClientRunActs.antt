@@ -6,7 +6,7 @@ use Rattle.giop_cdr.specs.Layout.{number, signed, octets, such, field, gives, ch
 use Rattle.giop_cdr.specs.Writing.Output.{number_out, octets_out, signed_out}
 use Rattle.giop_cdr.specs.declared.order.Order.{Order}
 use Rattle.giop_cdr.specs.declared.order.Order.TheVariants.{Big, Little}
-use Rattle.giop_types.specs.declared.json.interface.Interface.{Interface}
+use Rattle.giop_types.specs.declared.interfaces.interface.Interface.{Interface}
 use Rattle.giop_msg.specs.Cut.{IsCut}
 use Rattle.giop_msg.specs.Locate.{locate_request, located}
 use Rattle.giop_msg.specs.Meaning.{meaning}

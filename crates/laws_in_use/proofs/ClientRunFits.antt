@@ -1,7 +1,7 @@
 -- What a client's end is given in a run fits it, and each call alone says what the run says of it.
 use Rattle.std.proofs.Common.{◌≡◌, ℕ, ◌==◌, Bool, true, false, if◌then◌else◌, List, [], ◌∷◌, refl, sym, subst, arith}
 use Rattle.std.proofs.lemmas.Bool.Decides.{nat_tests}
-use Rattle.giop_types.specs.declared.json.interface.Interface.{Interface}
+use Rattle.giop_types.specs.declared.interfaces.interface.Interface.{Interface}
 use Rattle.giop_cdr.specs.Layout.{number, chosen}
 use Rattle.giop_cdr.specs.Reading.Values.{field_at, number_at}
 use Rattle.giop_cdr.specs.declared.order.Order.TheVariants.{Little}

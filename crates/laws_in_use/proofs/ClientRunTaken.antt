@@ -1,6 +1,6 @@
 -- A client's end takes what it is given in a run as its acts, and refuses nothing.
 use Rattle.std.proofs.Common.{◌≡◌, [], take, Some, Ok, refl, sym, ap, subst, arith}
-use Rattle.giop_types.specs.declared.json.interface.Interface.{Interface}
+use Rattle.giop_types.specs.declared.interfaces.interface.Interface.{Interface}
 use Rattle.giop_cdr.specs.declared.fault.CdrKind.TheVariants.{Short}
 use Rattle.giop_cdr.specs.declared.order.Order.TheVariants.{Little}
 use Rattle.giop_ids.specs.Runs.{Does}

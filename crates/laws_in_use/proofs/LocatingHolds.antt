@@ -1,6 +1,6 @@
 -- Both ways of locating hold the same calls.
 use Rattle.std.proofs.Common.{◌≡◌, ℕ, ◌==◌, Bool, true, false, List, [], ◌∷◌, ◌++◌, map, None, refl}
-use Rattle.giop_types.specs.declared.json.interface.Interface.{Interface}
+use Rattle.giop_types.specs.declared.interfaces.interface.Interface.{Interface}
 use Rattle.giop_cdr.specs.Layout.{number, chosen}
 use Rattle.giop_cdr.specs.Reading.Values.{field_at, number_at}
 use Rattle.giop_cdr.specs.declared.order.Order.TheVariants.{Big, Little}

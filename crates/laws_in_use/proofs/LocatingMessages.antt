@@ -1,6 +1,6 @@
 -- The messages by which two objects are located: they are messages, and what they come to.
 use Rattle.std.proofs.Common.{◌≡◌, ◌++◌, drop, Some, Ok, refl, arith}
-use Rattle.giop_types.specs.declared.json.interface.Interface.{Interface}
+use Rattle.giop_types.specs.declared.interfaces.interface.Interface.{Interface}
 use Rattle.giop_cdr.specs.Layout.{number, signed, octets, such, field, gives, reserved, chosen}
 use Rattle.giop_cdr.specs.Reading.Values.{count_at, field_at, number_at, octets_at, signed_at, such_at}
 use Rattle.giop_cdr.specs.declared.fault.CdrKind.TheVariants.{BadCount}

@@ -1,6 +1,6 @@
 -- What the messages of both ways spell, by the laws of the tables.
 use Rattle.std.proofs.Common.{◌≡◌, ℕ, List, [], ◌∷◌, Ok, Err, refl, sym, subst, ◌∙◌, append-nil, arith, rules}
-use Rattle.giop_types.specs.declared.json.interface.Interface.{Interface}
+use Rattle.giop_types.specs.declared.interfaces.interface.Interface.{Interface}
 use Rattle.giop_cdr.specs.Ending.{ended}
 use Rattle.giop_cdr.specs.Layout.{number, signed, octets, such, field, gives, chosen}
 use Rattle.giop_cdr.specs.Reading.Exactness.{Took}

@@ -6,9 +6,9 @@ use Rattle.std.specs.List.{list_any}
 use Rattle.std.specs.Map.{lookup}
 use Rattle.std.specs.Ordering.{nat_cmp}
 use Rattle.std.specs.declared.alloc.Global.{Global}
-use Rattle.giop_types.specs.declared.json.interface.Interface.{Interface}
-use Rattle.giop_types.specs.declared.json.interface.Operation.{Operation}
-use Rattle.giop_types.specs.JsonForms.InterfaceFromJson.{Signature, interface_view, operation_view}
+use Rattle.giop_types.specs.declared.interfaces.interface.Interface.{Interface}
+use Rattle.giop_types.specs.declared.interfaces.interface.Operation.{Operation}
+use Rattle.giop_json.specs.InterfaceFromJson.{Signature, interface_view, operation_view}
 use Rattle.giop_types.specs.Objects.{offer_of, own_or}
 use Rattle.giop_msg.specs.Messages.Request.{operation_in}
 

@@ -1,6 +1,6 @@
 -- The session's own ends run so on one lane.
 use Rattle.std.proofs.Common.{◌≡◌, true, [], ◌∷◌, Option, Some, refl, inr, subst, arith, rules}
-use Rattle.giop_types.specs.declared.json.interface.Interface.{Interface}
+use Rattle.giop_types.specs.declared.interfaces.interface.Interface.{Interface}
 use Rattle.giop_cdr.specs.Ending.{ended, leads, made_of, remainder}
 use Rattle.giop_cdr.specs.Layout.{number, signed, octets, such, field, gives, reserved, chosen}
 use Rattle.giop_cdr.specs.Reading.Values.{count_at, field_at, number_at, octets_at, signed_at, such_at}

@@ -8,9 +8,9 @@ use Rattle.giop_cdr.specs.Writing.Output.{items_out, number_out, octets_out, pad
 use Rattle.giop_cdr.specs.declared.order.Order.TheVariants.{Big}
 use Rattle.giop_types.specs.Coding.Written.{fields_out}
 use Rattle.giop_types.specs.Values.Fits.{fields_fit}
-use Rattle.giop_types.specs.declared.json.interface.Interface.{Interface}
-use Rattle.giop_types.specs.declared.json.interface.Operation.{Operation}
-use Rattle.giop_types.specs.declared.json.parameters.Parameter.{Parameter}
+use Rattle.giop_types.specs.declared.interfaces.interface.Interface.{Interface}
+use Rattle.giop_types.specs.declared.interfaces.interface.Operation.{Operation}
+use Rattle.giop_types.specs.declared.interfaces.parameters.Parameter.{Parameter}
 use Rattle.giop_ior.specs.ServiceContext.{service_context, service_contexts}
 use Rattle.giop_msg.specs.Cut.{CanCut, IsCut}
 use Rattle.giop_msg.specs.Messages.Body.{body_of, fields_in, values}

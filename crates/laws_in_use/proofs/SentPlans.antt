@@ -1,6 +1,6 @@
 -- What ends plan to send, as their contracts say it.
 use Rattle.std.proofs.Common.{◌≡◌, false, List, [], ◌∷◌, Some, None, refl, inl, ap, subst, arith, rules}
-use Rattle.giop_types.specs.declared.json.interface.Interface.{Interface}
+use Rattle.giop_types.specs.declared.interfaces.interface.Interface.{Interface}
 use Rattle.giop_cdr.specs.Ending.{ended, leads, made_of, remainder}
 use Rattle.giop_cdr.specs.Layout.{number, signed, octets, such, field, gives, chosen}
 use Rattle.giop_cdr.specs.Writing.Output.{number_out, octets_out, signed_out}

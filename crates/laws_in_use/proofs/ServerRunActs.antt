@@ -1,7 +1,7 @@
 -- As which acts a run takes what a server's end is given, whatever its calls are then.
 use Rattle.std.proofs.Common.{◌≡◌, ℕ, Bool, List, [], ◌∷◌, ◌++◌, true, Option, Some, None, ap}
 use Rattle.giop_cdr.specs.declared.order.Order.{Order}
-use Rattle.giop_types.specs.declared.json.interface.Interface.{Interface}
+use Rattle.giop_types.specs.declared.interfaces.interface.Interface.{Interface}
 use Rattle.giop_msg.specs.Stream.{Unread}
 use Rattle.giop_msg.specs.declared.version.Version.{Version}
 use Rattle.giop_mux.specs.Runs.{Hears, IsTaken}

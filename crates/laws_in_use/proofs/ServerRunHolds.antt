@@ -1,6 +1,6 @@
 -- What a run of a server's end is given holds the calls that are said, by whatever message it answers.
 use Rattle.std.proofs.Common.{◌≡◌, ◌∙◌, true, List, [], ◌∷◌, ◌++◌, ap, map, None, refl, sym, subst}
-use Rattle.giop_types.specs.declared.json.interface.Interface.{Interface}
+use Rattle.giop_types.specs.declared.interfaces.interface.Interface.{Interface}
 use Rattle.giop_msg.specs.Laws.{IsTable}
 use Rattle.giop_msg.specs.Locate.{locate_request}
 use Rattle.giop_msg.specs.Stream.{Unread}

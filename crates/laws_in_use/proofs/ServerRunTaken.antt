@@ -1,6 +1,6 @@
 -- A server's end takes what it is given in a run as its acts, and refuses nothing.
 use Rattle.std.proofs.Common.{◌≡◌, true, [], take, Some, Ok, refl, sym, ap, subst, ◌∙◌, arith}
-use Rattle.giop_types.specs.declared.json.interface.Interface.{Interface}
+use Rattle.giop_types.specs.declared.interfaces.interface.Interface.{Interface}
 use Rattle.giop_cdr.specs.Ending.{leads, made_of, remainder}
 use Rattle.giop_cdr.specs.Layout.{number, such, field, gives, chosen}
 use Rattle.giop_cdr.specs.Writing.Output.{number_out}

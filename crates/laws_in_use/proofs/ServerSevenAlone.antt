@@ -1,6 +1,6 @@
 -- A server's end that is given 7 alone refuses none of it, and this says what a run says of 7.
 use Rattle.std.proofs.Common.{◌≡◌, ℕ, ◌==◌, drop, Bool, true, false, if◌then◌else◌, List, [], ◌∷◌, map, Some, None, Ok, refl, sym, ap, subst, arith, inr}
-use Rattle.giop_types.specs.declared.json.interface.Interface.{Interface}
+use Rattle.giop_types.specs.declared.interfaces.interface.Interface.{Interface}
 use Rattle.giop_cdr.specs.Layout.{number, chosen}
 use Rattle.giop_cdr.specs.Reading.Values.{field_at, number_at}
 use Rattle.giop_cdr.specs.declared.order.Order.TheVariants.{Big}

@@ -1,7 +1,7 @@
 -- What an end that is given one call alone shows, where it refuses none of it; and how it reads.
 use Rattle.std.proofs.Common.{ℕ, ◌++◌, append-nil, List, [], ◌∷◌, map, refl, sym, ap, ◌∙◌, arith}
 use Rattle.std.proofs.lemmas.List.Elements.{All-cons, All-nil}
-use Rattle.giop_types.specs.declared.json.interface.Interface.{Interface}
+use Rattle.giop_types.specs.declared.interfaces.interface.Interface.{Interface}
 use Rattle.giop_msg.specs.Msg.{IsMessage, message_octets}
 use Rattle.giop_msg.specs.declared.msg.Msg.{Msg}
 use Rattle.giop_msg.proofs.FramerLemmas.{waits_for_header}

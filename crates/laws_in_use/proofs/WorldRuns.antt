@@ -8,7 +8,7 @@ use Rattle.giop_cdr.specs.Reading.Values.{field_at, number_at}
 use Rattle.giop_cdr.specs.Writing.Output.{number_out, octets_out}
 use Rattle.giop_cdr.specs.declared.order.Order.TheVariants.{Big, Little}
 use Rattle.giop_ids.specs.Runs.{Rules, left}
-use Rattle.giop_types.specs.declared.json.interface.Interface.{Interface}
+use Rattle.giop_types.specs.declared.interfaces.interface.Interface.{Interface}
 use Rattle.giop_msg.specs.Cut.{IsCut}
 use Rattle.giop_msg.specs.Header.{header_octets}
 use Rattle.giop_msg.specs.Laws.{OneSplit}

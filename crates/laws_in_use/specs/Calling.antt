@@ -2,7 +2,7 @@
 use Rattle.std.specs.Prelude.{◌≡◌, ℕ, false, List, [], ◌∷◌, ◌++◌, codes, Some, None}
 use Rattle.giop_cdr.specs.declared.order.Order.TheVariants.{Big}
 use Rattle.giop_types.specs.Objects.{offer_of}
-use Rattle.giop_types.specs.declared.json.interface.Interface.{Interface}
+use Rattle.giop_types.specs.declared.interfaces.interface.Interface.{Interface}
 use Rattle.giop_msg.specs.Messages.Request.{operation_in}
 use Rattle.giop_msg.specs.Msg.{message_octets}
 use Rattle.giop_msg.specs.declared.version.Version.TheVariants.{V12}

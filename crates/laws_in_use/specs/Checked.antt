@@ -1,6 +1,6 @@
 -- A file without octets, and a text that is no interface, as `check` tells them.
 use Rattle.std.specs.Prelude.{ℕ, List, [], ◌∷◌, ◌++◌, codes}
-use Rattle.giop_types.specs.declared.json.number_form.NumberForm.TheVariants.{Plain}
+use Rattle.giop_json.specs.declared.number_form.NumberForm.TheVariants.{Plain}
 use Rattle.giop_forms.specs.declared.line_form.LineForm.{LineForm}
 use Rattle.giop_forms.specs.declared.line_form.LineForm.TheVariants.{Text}
 

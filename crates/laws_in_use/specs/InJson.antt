@@ -2,9 +2,9 @@
 use Rattle.std.specs.Prelude.{ℕ, pos, codes, List, [], ◌∷◌, true, false}
 use Rattle.serde_json.specs.Data.{Data, array, boolean, item, member, no_items, no_members, number, object, string, unsigned}
 use Rattle.giop_types.specs.Descriptions.Shape.{Shape, branch, choice, field, labels, long, no_branches, no_fields, text, ushort}
-use Rattle.giop_types.specs.JsonForms.InterfaceFromJson.{Offer}
-use Rattle.giop_types.specs.JsonForms.JsonText.{text_of}
-use Rattle.giop_types.specs.JsonForms.ToJson.{text_data}
+use Rattle.giop_json.specs.InterfaceFromJson.{Offer}
+use Rattle.giop_json.specs.JsonText.{text_of}
+use Rattle.giop_json.specs.ToJson.{text_data}
 use Rattle.giop_types.specs.Values.Views.{Named}
 
 -- a union by an enum of two names: a number where it is the first, else a string of 3 octets at most

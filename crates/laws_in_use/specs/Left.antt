@@ -2,7 +2,7 @@
 -- message, whatever octets the interface makes of it.
 use Rattle.std.specs.Prelude.{false, List, Some}
 use Rattle.giop_cdr.specs.declared.order.Order.TheVariants.{Big}
-use Rattle.giop_types.specs.declared.json.interface.Interface.{Interface}
+use Rattle.giop_types.specs.declared.interfaces.interface.Interface.{Interface}
 use Rattle.giop_msg.specs.Cut.{message_of}
 use Rattle.giop_msg.specs.declared.kind.Kind.TheVariants.{Reply, Request}
 use Rattle.giop_msg.specs.declared.msg.Msg.{Msg}

@@ -1,7 +1,7 @@
 -- A file that names a type, and a part that is a name.
 use Rattle.std.specs.Prelude.{codes}
 use Rattle.serde_json.specs.Data.{Data, array, item, member, no_items, no_members, object, string}
-use Rattle.giop_types.specs.JsonForms.JsonText.{text_of}
+use Rattle.giop_json.specs.JsonText.{text_of}
 use Rattle.laws_in_use.specs.InJson.{coin_told}
 
 -- the name `Coin`

@@ -2,8 +2,8 @@
 -- client sends of it; and an exception of the broker that answers it.
 use Rattle.std.specs.Prelude.{◌≡◌, ℕ, true, false, List, [], ◌∷◌, ◌++◌, codes, Some}
 use Rattle.giop_cdr.specs.declared.order.Order.TheVariants.{Big}
-use Rattle.giop_types.specs.declared.json.interface.Interface.{Interface}
-use Rattle.giop_types.specs.declared.json.interface.Operation.{Operation}
+use Rattle.giop_types.specs.declared.interfaces.interface.Interface.{Interface}
+use Rattle.giop_types.specs.declared.interfaces.interface.Operation.{Operation}
 use Rattle.giop_types.specs.Objects.{offer_of}
 use Rattle.giop_msg.specs.Cut.{message_of}
 use Rattle.giop_msg.specs.Messages.Request.{operation_in}

@@ -3,7 +3,7 @@
 ghost use Rattle.std.specs.Prelude.{◌≡◌, ◌≢◌, ◌∷◌, [], Err, List, None, Some, true};
 ghost use Rattle.std.specs.FinMap as finite;
 ghost use Rattle.std.specs.Option.{option_map};
-ghost use Rattle.giop_types.specs.declared.json.interface.Interface.{Interface};
+ghost use Rattle.giop_types.specs.declared.interfaces.interface.Interface.{Interface};
 ghost use Rattle.giop_msg.specs.Fault.{fault};
 ghost use Rattle.giop_msg.specs.declared.fault.WireKind.TheVariants.{BadMagic};
 ghost use Rattle.giop_msg.specs.declared.version.Version.TheVariants.{V12};

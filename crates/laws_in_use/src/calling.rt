@@ -2,8 +2,8 @@
 //! that is refused.
 ghost use Rattle.std.specs.Prelude.{◌≡◌, ◌≢◌, ◌∷◌, [], None, Some, length};
 ghost use Rattle.std.specs.FinMap as finite;
-ghost use Rattle.giop_types.specs.JsonForms.InterfaceFromJson.{interface_view};
-ghost use Rattle.giop_types.specs.declared.json.interface.Interface.{Interface};
+ghost use Rattle.giop_json.specs.InterfaceFromJson.{interface_view};
+ghost use Rattle.giop_types.specs.declared.interfaces.interface.Interface.{Interface};
 ghost use Rattle.giop_show.specs.declared.status.Status.TheVariants.{Refused};
 ghost use Rattle.giop_commands.specs.Session.Printed.{wire};
 ghost use Rattle.giop_calling.specs.Call.Calling.{new_box};

@@ -1,10 +1,10 @@
 //! What `check` tells of a file, in use: one text and one status; and the fault of a text that is no
 //! interface.
 ghost use Rattle.std.specs.Prelude.{◌≡◌, [], false, Err, Some};
-ghost use Rattle.giop_types.specs.JsonForms.DescFromJson.{json_in};
-ghost use Rattle.giop_types.specs.JsonForms.InterfaceFromJson.{interface_told, interface_view};
-ghost use Rattle.giop_types.specs.declared.json.form_fault.FormFault.TheVariants.{BadJson};
-ghost use Rattle.giop_types.specs.declared.json.interface.Interface.{Interface};
+ghost use Rattle.giop_json.specs.DescFromJson.{json_in};
+ghost use Rattle.giop_json.specs.InterfaceFromJson.{interface_told, interface_view};
+ghost use Rattle.giop_json.specs.declared.form_fault.FormFault.TheVariants.{BadJson};
+ghost use Rattle.giop_types.specs.declared.interfaces.interface.Interface.{Interface};
 ghost use Rattle.giop_show.specs.declared.status.Status.TheVariants.{Done, Refused};
 ghost use Rattle.giop_commands.specs.Check.{ChecksKnown, ChecksText, IsChecked, default_limits};
 ghost use Rattle.laws_in_use.specs.Checked.{as_text, no_json, not_utf8, nothing_left};
@@ -12,8 +12,8 @@ ghost use Rattle.laws_in_use.specs.InJson.{adding, adding_told};
 
 use giop_calls::ServerRule;
 use giop_commands::laws::texts_are_interfaces_or_refused;
+use giop_json::laws::json_gives_interfaces_back;
 use giop_session::laws::any_reads_leave_the_same;
-use giop_types::laws::json_gives_interfaces_back;
 
 /// Two checks of the same octets write one text and end with one status. Of a file without octets
 /// that is one line, and done.

@@ -12,28 +12,32 @@ ghost use Rattle.giop_types.specs.declared.description.desc_fault.DescFault.TheV
 ghost use Rattle.giop_types.specs.Descriptions.Checked.{desc_fault};
 ghost use Rattle.giop_types.specs.Descriptions.CheckedShape.{checked_shape};
 ghost use Rattle.giop_types.specs.Descriptions.Shape.{ushort};
-ghost use Rattle.giop_types.specs.IorText.{ior_text_of, IorText, prefixed, PrefixedText, text_written};
-ghost use Rattle.giop_types.specs.JsonForms.FromJson.{from_data, ReadsBack};
-ghost use Rattle.giop_types.specs.JsonForms.ToJson.{to_data};
-ghost use Rattle.giop_types.specs.declared.json.number_form.NumberForm.{NumberForm};
-ghost use Rattle.giop_types.specs.declared.json.number_form.NumberForm.TheVariants.{Quoted};
+ghost use Rattle.giop_ior_text.specs.IorText.{ior_text_of, IorText, prefixed, PrefixedText, text_written};
+ghost use Rattle.giop_json.specs.FromJson.{from_data, ReadsBack};
+ghost use Rattle.giop_json.specs.ToJson.{to_data};
+ghost use Rattle.giop_json.specs.declared.number_form.NumberForm.{NumberForm};
+ghost use Rattle.giop_json.specs.declared.number_form.NumberForm.TheVariants.{Quoted};
 ghost use Rattle.giop_types.specs.Values.Fits.{fits};
 ghost use Rattle.giop_types.specs.Values.Leaves.{leaves, leaves_of};
 ghost use Rattle.giop_types.specs.Values.Same.{same_list, same_value};
 ghost use Rattle.giop_types.specs.Values.Tree.{boolean_of, choice_of, items_of, octets_of, Tree, Trees, ushort_of};
 ghost use Rattle.giop_types.specs.Values.Views.{value_view};
-ghost use Rattle.giop_types.specs.declared.json.form_fault.FormFault.TheVariants.{Unfit};
+ghost use Rattle.giop_json.specs.declared.form_fault.FormFault.TheVariants.{Unfit};
 ghost use Rattle.giop_types.specs.declared.value.Value.{Value as Seen};
 ghost use Rattle.laws_in_use.specs.Described.{doubled, many, pair, value, value_octets};
 
 use giop_cdr::{CdrFault, EncodeFault, Order};
+use giop_json::laws::{
+    ior_texts_are_read, json_gives_values_back, what_is_read_as_json_is_written_so,
+    written_and_read_as_json, written_ior_texts_are_read_back,
+};
+use giop_json::{FormFault, NumberForm};
 use giop_types::laws::{
     descriptions_are_checked_node_by_node, encoded_and_decoded, equal_values_are_the_same,
-    ior_texts_are_read, json_gives_values_back, leaves_count_every_part, spelled_values_fit,
-    values_are_bounded, values_are_spelled, what_is_read_as_json_is_written_so,
-    written_and_read_as_json, written_ior_texts_are_read_back, written_values_are_read_back,
+    leaves_count_every_part, spelled_values_fit, values_are_bounded, values_are_spelled,
+    written_values_are_read_back,
 };
-use giop_types::{CheckedDesc, FormFault, NumberForm, Value};
+use giop_types::{CheckedDesc, Value};
 use std::alloc::Global;
 
 /// A struct of a number and a text is written from the offset 1 on, read back with what stands

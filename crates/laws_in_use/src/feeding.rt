@@ -1,6 +1,6 @@
 //! Octets that are fed in two reads, and in one: a server's end is left the same.
 ghost use Rattle.std.specs.Prelude.{◌≡◌, ◌≢◌, ◌++◌, [], Err, None, Ok, Some, take};
-ghost use Rattle.giop_types.specs.declared.json.interface.Interface.{Interface};
+ghost use Rattle.giop_types.specs.declared.interfaces.interface.Interface.{Interface};
 ghost use Rattle.giop_msg.specs.Msg.{message_octets};
 ghost use Rattle.giop_session.specs.Hearing.Heard.{hears};
 ghost use Rattle.giop_session.specs.Hearing.ServerHears.{server_side};

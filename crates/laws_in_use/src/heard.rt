@@ -3,7 +3,7 @@
 ghost use Rattle.std.specs.Prelude.{◌≡◌, ◌∷◌, [], ℕ, Ok};
 ghost use Rattle.std.specs.FinMap as finite;
 ghost use Rattle.giop_ids.specs.Runs.{Runs};
-ghost use Rattle.giop_types.specs.declared.json.interface.Interface.{Interface};
+ghost use Rattle.giop_types.specs.declared.interfaces.interface.Interface.{Interface};
 ghost use Rattle.giop_calls.specs.ServerTable.{is_closed, is_gathering, left_of, server_step};
 ghost use Rattle.giop_session.specs.Calls.CallTable.{at, rules_of};
 ghost use Rattle.giop_session.specs.Runs.Alone.{SameOfEach, RunsFreely, SameActs, answers_of, MeetsNone};

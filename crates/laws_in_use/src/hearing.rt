@@ -2,7 +2,7 @@
 //! are gathered and read as `coding` reads them.
 ghost use Rattle.std.specs.Prelude.{◌≡◌, ◌∷◌, [], None, Some, codes, true};
 ghost use Rattle.giop_cdr.specs.declared.order.Order.TheVariants.{Big};
-ghost use Rattle.giop_types.specs.declared.json.interface.Interface.{Interface};
+ghost use Rattle.giop_types.specs.declared.interfaces.interface.Interface.{Interface};
 ghost use Rattle.giop_msg.specs.declared.version.Version.TheVariants.{V12};
 ghost use Rattle.giop_calls.specs.declared.client.event.ClientEvent.TheVariants as at_client;
 ghost use Rattle.giop_calls.specs.declared.client.heard.HeardReply.TheVariants as reply;

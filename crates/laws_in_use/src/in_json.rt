@@ -1,14 +1,14 @@
 //! Descriptions and interfaces as JSON: written, and read as what was written.
 ghost use Rattle.std.specs.Prelude.{◌≡◌, None, Ok, Some, true};
 ghost use Rattle.giop_types.specs.Descriptions.Checked.{desc_fault};
-ghost use Rattle.giop_types.specs.JsonForms.DescFromJson.{desc_in, described};
-ghost use Rattle.giop_types.specs.JsonForms.DescToJson.{desc_data, is_sayable};
-ghost use Rattle.giop_types.specs.JsonForms.InterfaceFromJson.{offer_in};
-ghost use Rattle.giop_types.specs.JsonForms.InterfaceToJson.{offer_data, offer_sayable};
-ghost use Rattle.giop_types.specs.JsonForms.Plain.{is_plain};
+ghost use Rattle.giop_json.specs.DescFromJson.{desc_in, described};
+ghost use Rattle.giop_json.specs.DescToJson.{desc_data, is_sayable};
+ghost use Rattle.giop_json.specs.InterfaceFromJson.{offer_in};
+ghost use Rattle.giop_json.specs.InterfaceToJson.{offer_data, offer_sayable};
+ghost use Rattle.giop_json.specs.Plain.{is_plain};
 ghost use Rattle.laws_in_use.specs.InJson.{adding, adding_told, coin, coin_told};
 
-use giop_types::laws::{json_gives_descriptions_back, json_gives_interfaces_back};
+use giop_json::laws::{json_gives_descriptions_back, json_gives_interfaces_back};
 
 /// A union by an enum, with a member by default: JSON can say it, it is written so, and what is written
 /// describes it.

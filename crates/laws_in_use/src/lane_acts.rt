@@ -1,7 +1,7 @@
 //! Acts of a lane in use: an end that hears the next message of its lane has stored what the lane's
 //! act leaves, and refuses it for a limit of its own alone.
 ghost use Rattle.std.specs.Prelude.{◌≡◌, ◌≢◌, ℕ, Err, Ok, Some};
-ghost use Rattle.giop_types.specs.declared.json.interface.Interface.{Interface};
+ghost use Rattle.giop_types.specs.declared.interfaces.interface.Interface.{Interface};
 ghost use Rattle.giop_calls.specs.Lane.{new, Runs};
 ghost use Rattle.giop_calls.specs.declared.client.entry.ClientEntry.{ClientEntry};
 ghost use Rattle.giop_calls.specs.declared.client.entry.ClientEntry.TheVariants.{LocateDone};

@@ -1,6 +1,6 @@
 //! Limits in use: what is within them meets none in any order, and what meets one isn't within.
 ghost use Rattle.std.specs.Prelude.{◌≡◌, ◌≢◌, ◌∷◌, []};
-ghost use Rattle.giop_types.specs.declared.json.interface.Interface.{Interface};
+ghost use Rattle.giop_types.specs.declared.interfaces.interface.Interface.{Interface};
 ghost use Rattle.giop_session.specs.declared.SessionFault.TheVariants.{GatherFull, TooManyCalls, WrongDirection};
 ghost use Rattle.giop_session.specs.Hearing.ClientHears.{client_side};
 ghost use Rattle.giop_session.specs.Runs.Events.{Comes, Does, Meets};

@@ -2,7 +2,7 @@
 ghost use Rattle.std.specs.Prelude.{◌≡◌, ◌≢◌, ℕ, true, Some, None, ◌∷◌, []};
 ghost use Rattle.std.specs.FinMap as finite;
 ghost use Rattle.giop_cdr.specs.declared.fault.CdrKind.TheVariants.{BadCount};
-ghost use Rattle.giop_types.specs.declared.json.interface.Interface.{Interface};
+ghost use Rattle.giop_types.specs.declared.interfaces.interface.Interface.{Interface};
 ghost use Rattle.giop_msg.specs.declared.messages.request_fault.RequestFault.TheVariants.{Header};
 ghost use Rattle.giop_msg.specs.declared.version.Version.TheVariants.{V10, V12};
 ghost use Rattle.giop_calls.specs.declared.kind.CallKind.TheVariants as kind;

@@ -5,7 +5,7 @@ ghost use Rattle.std.specs.List.{flat_map};
 ghost use Rattle.giop_cdr.specs.declared.fault.CdrKind.TheVariants.{Short, Trailing};
 ghost use Rattle.giop_cdr.specs.declared.order.Order.TheVariants.{Big, Little};
 ghost use Rattle.giop_cdr.specs.Ending.{ended};
-ghost use Rattle.giop_types.specs.declared.json.interface.Interface.{Interface};
+ghost use Rattle.giop_types.specs.declared.interfaces.interface.Interface.{Interface};
 ghost use Rattle.giop_types.specs.Objects.{offer_of};
 ghost use Rattle.giop_msg.specs.Cut.{CanCut, IsCut, joined};
 ghost use Rattle.giop_msg.specs.declared.fault.WireKind.TheVariants.{BadMagic};

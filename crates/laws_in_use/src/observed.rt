@@ -9,7 +9,7 @@ ghost use Rattle.giop_tracing.specs.Trace.Text.{both_turn, heard_lines};
 ghost use Rattle.giop_forms.specs.declared.line_form.LineForm.{LineForm};
 ghost use Rattle.giop_trace.specs.Observing.{Brought, left_of_all, told_of_all};
 ghost use Rattle.giop_trace.specs.declared.flow.Flow.{Flow};
-ghost use Rattle.giop_types.specs.declared.json.interface.Interface.{Interface};
+ghost use Rattle.giop_types.specs.declared.interfaces.interface.Interface.{Interface};
 ghost use Rattle.laws_in_use.specs.Observed.{answered, asked, before_the_last, in_part, in_turn, whole};
 
 use giop_trace::laws::each_call_alone;

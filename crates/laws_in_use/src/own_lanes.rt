@@ -2,7 +2,7 @@
 //! a LocateRequest that is answered.
 ghost use Rattle.std.specs.Prelude.{◌≡◌, [], Some, false, true};
 ghost use Rattle.std.specs.Option.{option_map};
-ghost use Rattle.giop_types.specs.declared.json.interface.Interface.{Interface};
+ghost use Rattle.giop_types.specs.declared.interfaces.interface.Interface.{Interface};
 ghost use Rattle.giop_calls.specs.declared.client.entry.ClientEntry.TheVariants as client;
 ghost use Rattle.giop_calls.specs.declared.outcome.Outcome.TheVariants.{Cancelled};
 ghost use Rattle.giop_calls.specs.declared.server.entry.ServerEntry.TheVariants as server;

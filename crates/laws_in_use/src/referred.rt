@@ -6,7 +6,7 @@ ghost use Rattle.giop_cdr.specs.declared.fault.CdrKind.TheVariants.{BadLabel, Ba
 ghost use Rattle.giop_cdr.specs.declared.order.Order.TheVariants.{Big};
 ghost use Rattle.giop_cdr.specs.Encapsulation.OfLayout.{RefusedInside};
 ghost use Rattle.giop_cdr.specs.Reading.Exactness.{Took};
-ghost use Rattle.giop_types.specs.IorText.{ior_text_of, IorText, text_written};
+ghost use Rattle.giop_ior_text.specs.IorText.{ior_text_of, IorText, text_written};
 ghost use Rattle.giop_ior.specs.Corbaloc.{CorbalocText};
 ghost use Rattle.giop_ior.specs.CorbalocReading.{corbaloc_of};
 ghost use Rattle.giop_ior.specs.CorbalocWriting.{corbaloc_text, is_writable, IsInRange};

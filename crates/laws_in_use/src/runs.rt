@@ -2,7 +2,7 @@
 ghost use Rattle.std.specs.Prelude.{◌≡◌, ◌≢◌, ◌⊎◌, ◌++◌, ◌∷◌, [], ℕ, IfOk, List, None, Some};
 ghost use Rattle.giop_cdr.specs.declared.fault.CdrKind.TheVariants.{BadCount};
 ghost use Rattle.giop_cdr.specs.declared.order.Order.TheVariants.{Big};
-ghost use Rattle.giop_types.specs.declared.json.interface.Interface.{Interface as Described};
+ghost use Rattle.giop_types.specs.declared.interfaces.interface.Interface.{Interface as Described};
 ghost use Rattle.giop_msg.specs.Msg.{message_octets};
 ghost use Rattle.giop_msg.specs.declared.messages.request_fault.RequestFault.TheVariants.{Header};
 ghost use Rattle.giop_msg.specs.declared.version.Version.TheVariants.{V10};

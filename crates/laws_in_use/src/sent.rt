@@ -3,7 +3,7 @@
 ghost use Rattle.std.specs.Prelude.{◌≡◌, ◌∷◌, [], All, None, Some, false, map, true};
 ghost use Rattle.std.specs.List.{AllByRecursion};
 ghost use Rattle.giop_cdr.specs.declared.order.Order.TheVariants.{Big, Little};
-ghost use Rattle.giop_types.specs.declared.json.interface.Interface.{Interface};
+ghost use Rattle.giop_types.specs.declared.interfaces.interface.Interface.{Interface};
 ghost use Rattle.giop_msg.specs.declared.version.Version.TheVariants.{V10, V12};
 ghost use Rattle.giop_calls.specs.Lane.{Continues, Opens};
 ghost use Rattle.giop_calls.specs.declared.client.call.Call.TheVariants as asked;

@@ -16,6 +16,7 @@ mod shown;
 use anyhow::{Result, bail};
 use decoding::{locate_reply, locate_request, reply, request};
 use framing::{cut_octets, header, id, next, take};
+use giop_json::interface_from_json;
 use giop_msg::{Framer, Request};
 use giop_types::Interface;
 use rows::{Rows, number, octets, print_rows, split};
@@ -28,7 +29,7 @@ fn main(rt: HostRuntime) -> Result<()> {
     let [_, interface] = words.as_slice() else {
         bail!("the one word is an interface, in JSON");
     };
-    let interface = Interface::from_json(rt.alloc(), interface.as_bytes())?;
+    let interface = interface_from_json(rt.alloc(), interface.as_bytes())?;
     let mut octets = Vec::new(rt.alloc());
     rt.reader().read_to_end(&mut octets)?;
     let text = String::from_utf8_lossy(rt.alloc(), octets.as_slice())?;

@@ -20,6 +20,7 @@ mod world;
 use anyhow::{Context, Result, bail};
 use first_line::{Ends, ends_in};
 use giop_calls::{ClientRule, ServerRule};
+use giop_json::interface_from_json;
 use giop_session::laws::{run_client, run_server};
 use giop_session::{ClientEnd, End, ServerEnd};
 use giop_types::Interface;
@@ -31,7 +32,7 @@ fn main(rt: HostRuntime) -> Result<()> {
     let [_, interface] = words.as_slice() else {
         bail!("the one word is an interface, in JSON");
     };
-    let interface = Interface::from_json(rt.alloc(), interface.as_bytes())?;
+    let interface = interface_from_json(rt.alloc(), interface.as_bytes())?;
     let mut octets = Vec::new(rt.alloc());
     rt.reader().read_to_end(&mut octets)?;
     let text = String::from_utf8_lossy(rt.alloc(), octets.as_slice())?;

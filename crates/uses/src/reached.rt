@@ -2,7 +2,7 @@
 //! change both.
 use giop_cdr::OctetList;
 use giop_ior::{iiop_view, ior_from_text};
-use giop_types::IorTextFault;
+use giop_ior_text::IorTextFault;
 use std::alloc::Global;
 
 /// The host and the port at which the first IIOP profile of a reference's text is reached.

@@ -5,9 +5,8 @@ use crate::parts::value_of;
 use crate::reading::front;
 use anyhow::{Result, bail};
 use giop_cdr::{CdrIn, CdrOut, EncodeFault, OctetList, Order, SliceOctets};
-use giop_types::{
-    CaseDesc, CheckedDesc, Desc, Interface, Value, decode, desc_from_json, encode, fits,
-};
+use giop_json::{desc_from_json, interface_from_json};
+use giop_types::{CaseDesc, CheckedDesc, Desc, Interface, Value, decode, encode, fits};
 use rows::{octets, order, parsed, shown, small};
 use std::alloc::{AllocError, Global};
 use std::fmt::Write;
@@ -110,7 +109,7 @@ fn discriminant(alloc: Global, word: &str) -> Result<Desc> {
 
 /// Of an interface how many operations and exceptions it has; and for each name how it is found.
 pub fn interface(alloc: Global, json: &str, names: &[&str]) -> Result<String> {
-    let interface = Interface::from_json(alloc, json.as_bytes())?;
+    let interface = interface_from_json(alloc, json.as_bytes())?;
     let (operations, exceptions) = (interface.operations().len(), interface.exceptions().len());
     let mut text = format!(in alloc; "{operations} operations, {exceptions} exceptions")?;
     for name in names {

@@ -2,7 +2,7 @@
 -- where an object is (9.4.5).
 use Rattle.std.specs.Prelude.{◌≡◌, ◌⊎◌, ℕ, ◌==◌, if◌then◌else◌, List, [], Option, Some, None, Result, Ok, Err}
 use Rattle.std_alloc.specs.Arc.{arc_value}
-use Rattle.giop_types.specs.declared.json.interface.Operation.{Operation}
+use Rattle.giop_types.specs.declared.interfaces.interface.Operation.{Operation}
 use Rattle.giop_types.specs.Values.Tree.{Tree}
 use Rattle.giop_msg.specs.declared.messages.request.Request.{Request}
 use Rattle.giop_msg.specs.declared.target.Target.TheVariants.{Key, Profile}

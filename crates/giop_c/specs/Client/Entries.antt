@@ -1,9 +1,9 @@
 -- What is stored for the id of a call at a client, as C sees it.
 use Rattle.std.specs.Prelude.{◌≡◌, ℕ, ℤ, pos, if◌then◌else◌, Option, Some, None, Ok, List, length}
 use Rattle.giop_cdr.specs.Faults.{cdr_kind_number}
-use Rattle.giop_types.specs.declared.json.interface.Interface.{Interface}
-use Rattle.giop_types.specs.declared.json.parameters.Parameter.{Parameter}
-use Rattle.giop_types.specs.IorText.{ior_text_of, text_written}
+use Rattle.giop_types.specs.declared.interfaces.interface.Interface.{Interface}
+use Rattle.giop_types.specs.declared.interfaces.parameters.Parameter.{Parameter}
+use Rattle.giop_ior_text.specs.IorText.{ior_text_of, text_written}
 use Rattle.giop_ior.specs.declared.references.service_context.ServiceContext.{ServiceContext}
 use Rattle.giop_ior.specs.Ior.{Reference, ior_layout}
 use Rattle.giop_msg.specs.declared.messages.reply.Reply.{Reply}

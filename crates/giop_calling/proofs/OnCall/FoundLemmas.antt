@@ -1,8 +1,8 @@
 -- What an interface has by the name of an operation that a JSON value tells.
 use Rattle.std.proofs.Common.{◌≡◌, ℕ, List, Option, Some, refl}
 use Rattle.serde_json.specs.Data.{Data}
-use Rattle.giop_types.specs.declared.json.interface.Interface.{Interface}
-use Rattle.giop_types.specs.declared.json.interface.Operation.{Operation}
+use Rattle.giop_types.specs.declared.interfaces.interface.Interface.{Interface}
+use Rattle.giop_types.specs.declared.interfaces.interface.Operation.{Operation}
 use Rattle.giop_msg.specs.Messages.Request.{operation_of}
 use Rattle.giop_commands.specs.Session.Forms.{octets_in}
 use Rattle.giop_calling.specs.Call.Forms.{call_of, call_named}

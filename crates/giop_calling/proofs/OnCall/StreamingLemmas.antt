@@ -8,7 +8,7 @@ use Rattle.giop_calls.specs.declared.client.event.ClientEvent.{ClientEvent}
 use Rattle.giop_calls.specs.declared.client.rule.ClientRule.{ClientRule}
 use Rattle.giop_calls.specs.declared.fault.CallFault.{CallFault}
 use Rattle.giop_calls.specs.ClientTable.{is_closed}
-use Rattle.giop_types.specs.declared.json.interface.Interface.{Interface}
+use Rattle.giop_types.specs.declared.interfaces.interface.Interface.{Interface}
 use Rattle.giop_end.specs.declared.end.End.{End}
 use Rattle.giop_end.specs.declared.session_fault.SessionFault.{SessionFault}
 use Rattle.giop_table.specs.CallTable.{Held}

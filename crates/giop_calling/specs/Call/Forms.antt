@@ -4,12 +4,12 @@ use Rattle.std.specs.Prelude.{option_and_then, Result, Err}
 use Rattle.serde_json.specs.Data as json
 use Rattle.serde_json.specs.Data.{Data, Items}
 use Rattle.serde_json.specs.Find.{get, as_array}
-use Rattle.giop_types.specs.declared.json.form_fault.FormFault.{FormFault}
-use Rattle.giop_types.specs.declared.json.form_fault.FormFault.TheVariants.{BadJson}
-use Rattle.giop_types.specs.declared.json.interface.Interface.{Interface}
-use Rattle.giop_types.specs.declared.json.interface.Operation.{Operation}
-use Rattle.giop_types.specs.JsonForms.DescFromJson.{json_in}
-use Rattle.giop_types.specs.JsonForms.FromJson.{in_object}
+use Rattle.giop_json.specs.declared.form_fault.FormFault.{FormFault}
+use Rattle.giop_json.specs.declared.form_fault.FormFault.TheVariants.{BadJson}
+use Rattle.giop_types.specs.declared.interfaces.interface.Interface.{Interface}
+use Rattle.giop_types.specs.declared.interfaces.interface.Operation.{Operation}
+use Rattle.giop_json.specs.DescFromJson.{json_in}
+use Rattle.giop_json.specs.FromJson.{in_object}
 use Rattle.giop_calling.specs.declared.call.calls.CallLine.{CallLine}
 use Rattle.giop_msg.specs.Messages.Request.{operation_of}
 use Rattle.giop_commands.specs.Session.Forms.{form_of, number_in, octets_in, told, values_in}

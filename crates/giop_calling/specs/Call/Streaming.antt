@@ -8,7 +8,7 @@ use Rattle.giop_ids.specs.ById.{ById}
 use Rattle.giop_msg.specs.Stream.{Unread}
 use Rattle.giop_calls.specs.declared.client.entry.ClientEntry.{ClientEntry}
 use Rattle.giop_calls.specs.ClientTable.{is_closed}
-use Rattle.giop_types.specs.declared.json.interface.Interface.{Interface}
+use Rattle.giop_types.specs.declared.interfaces.interface.Interface.{Interface}
 use Rattle.giop_table.specs.declared.slot.Slot.{Slot}
 use Rattle.giop_end.specs.declared.limits.Limits.{Limits}
 use Rattle.giop_end.specs.declared.session_fault.SessionFault.{SessionFault}

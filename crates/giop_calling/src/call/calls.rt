@@ -2,13 +2,14 @@
 //! `calls_in` in specs/Call/Forms.antt: change both.
 ghost use Rattle.std.specs.Prelude.{◌≡◌, ◌⊎◌, option_map, IfOk, IfErr};
 ghost use Rattle.serde_json.specs.View.{view, items_view};
-ghost use Rattle.giop_types.specs.declared.json.form_fault.FormFault.TheVariants.{NoMemory};
-ghost use Rattle.giop_types.specs.JsonForms.FromJson.{Shows};
+ghost use Rattle.giop_json.specs.declared.form_fault.FormFault.TheVariants.{NoMemory};
+ghost use Rattle.giop_json.specs.FromJson.{Shows};
 ghost use Rattle.giop_calling.specs.Call.Forms.{call_in, call_list, call_named, call_of, calls_in, each_call, one_call_in};
 
 use giop_cdr::OctetList;
 use giop_commands::session::json::{is_object_of, octets_of, ulong_of, values_of, with_item};
-use giop_types::{FormFault, Interface, Operation, ValueList, parse_json};
+use giop_json::{FormFault, parse_json};
+use giop_types::{Interface, Operation, ValueList};
 use serde_json::Value as Json;
 use std::alloc::Global;
 

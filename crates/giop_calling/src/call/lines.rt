@@ -4,8 +4,9 @@ ghost use Rattle.std.specs.Prelude.{◌≡◌, ◌∷◌, ◌++◌, OnOk, []};
 ghost use Rattle.giop_calling.specs.Call.Lines.{is_blank, is_space, is_spent, line_ended, none_taken, octet_taken, octets_taken, read_taken, so_far, text_ended, wants_more};
 
 use crate::call::calls::{CallLine, call_from_json};
+use giop_json::FormFault;
 use giop_show::failure::Failure;
-use giop_types::{FormFault, Interface};
+use giop_types::Interface;
 use std::alloc::{AllocError, Global};
 use std::collections::VecDeque;
 

@@ -2,11 +2,12 @@
 //! in specs/Call/Forms.antt: change both.
 ghost use Rattle.std.specs.Prelude.{◌≡◌, ◌⊎◌, ◌∷◌, [], IfOk, IfErr, Ok, Err};
 ghost use Rattle.serde_json.specs.View.{items_view};
-ghost use Rattle.giop_types.specs.declared.json.form_fault.FormFault.TheVariants.{NoMemory};
+ghost use Rattle.giop_json.specs.declared.form_fault.FormFault.TheVariants.{NoMemory};
 ghost use Rattle.giop_calling.specs.Call.Forms.{call_in_words};
 
 use crate::call::calls::{CallLine, call_named};
-use giop_types::{FormFault, Interface};
+use giop_json::FormFault;
+use giop_types::Interface;
 use serde_json::Value as Json;
 use std::alloc::{AllocError, Global};
 

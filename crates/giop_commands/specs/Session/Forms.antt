@@ -6,13 +6,13 @@ use Rattle.std.specs.Prelude.{option_and_then, Result, Ok, Err}
 use Rattle.serde_json.specs.Data as json
 use Rattle.serde_json.specs.Data.{Data, Items}
 use Rattle.serde_json.specs.Find.{as_array}
-use Rattle.giop_types.specs.declared.json.form_fault.FormFault.{FormFault}
-use Rattle.giop_types.specs.declared.json.form_fault.FormFault.TheVariants.{BadShape}
-use Rattle.giop_types.specs.declared.json.form_fault.FormFault.TheVariants.{Unfit}
-use Rattle.giop_types.specs.declared.json.parameters.Parameter.{Parameter}
+use Rattle.giop_json.specs.declared.form_fault.FormFault.{FormFault}
+use Rattle.giop_json.specs.declared.form_fault.FormFault.TheVariants.{BadShape}
+use Rattle.giop_json.specs.declared.form_fault.FormFault.TheVariants.{Unfit}
+use Rattle.giop_types.specs.declared.interfaces.parameters.Parameter.{Parameter}
 use Rattle.giop_types.specs.Descriptions.CheckedShape.{checked_shape}
 use Rattle.giop_types.specs.Descriptions.Shape.{Shape, text, ulong}
-use Rattle.giop_types.specs.JsonForms.FromJson.{from_data}
+use Rattle.giop_json.specs.FromJson.{from_data}
 use Rattle.giop_types.specs.Values.Tree.{Tree, text_of, ulong_of}
 
 -- ---- parts

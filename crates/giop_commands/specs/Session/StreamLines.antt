@@ -1,8 +1,8 @@
 -- The lines of calls that are told as soon as they are over, without their newlines.
 use Rattle.std.specs.Prelude.{ℕ, ◌++◌, List, []}
 use Rattle.giop_msg.specs.declared.messages.reply_body.ReplyBody.{ReplyBody}
-use Rattle.giop_types.specs.declared.json.number_form.NumberForm.{NumberForm}
-use Rattle.giop_types.specs.declared.json.interface.Interface.{Interface}
+use Rattle.giop_json.specs.declared.number_form.NumberForm.{NumberForm}
+use Rattle.giop_types.specs.declared.interfaces.interface.Interface.{Interface}
 use Rattle.giop_calls.specs.declared.server.entry.ServerEntry.{ServerEntry}
 use Rattle.giop_calls.specs.declared.server.entry.ServerEntry.TheVariants as server
 use Rattle.giop_calls.specs.declared.server.question.Question.{Question}

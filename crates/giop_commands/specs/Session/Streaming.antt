@@ -8,7 +8,7 @@ use Rattle.giop_ids.specs.ById.{ById, put}
 use Rattle.giop_table.specs.declared.slot.Slot.{Slot}
 use Rattle.giop_table.specs.CallTable.{Held}
 use Rattle.giop_table.specs.Sending.{entry_of}
-use Rattle.giop_types.specs.declared.json.interface.Interface.{Interface}
+use Rattle.giop_types.specs.declared.interfaces.interface.Interface.{Interface}
 use Rattle.giop_commands.specs.declared.session.given.Showing.{Showing}
 use Rattle.giop_forms.specs.declared.line_form.LineForm.{LineForm}
 use Rattle.giop_commands.specs.Session.Tables.Table.{text_at}

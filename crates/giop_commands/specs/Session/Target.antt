@@ -13,8 +13,8 @@ use Rattle.giop_ior.specs.CorbalocReading.{corbaloc_of}
 use Rattle.giop_ior.specs.Iiop.{Profile, iiop_octets, iiop_of}
 use Rattle.giop_ior.specs.Ior.{Reference, ior_layout}
 use Rattle.giop_msg.specs.Version.{minor_of, version_of}
-use Rattle.giop_types.specs.declared.ior_text_fault.IorTextFault.{IorTextFault}
-use Rattle.giop_types.specs.IorText.{ior_text_of}
+use Rattle.giop_ior_text.specs.declared.ior_text_fault.IorTextFault.{IorTextFault}
+use Rattle.giop_ior_text.specs.IorText.{ior_text_of}
 use Rattle.giop_commands.specs.declared.session.target.Endpoint.{Endpoint}
 use Rattle.giop_commands.specs.declared.session.target.Targeted.{Targeted}
 use Rattle.giop_commands.specs.declared.session.target.Targeted.TheVariants as targeted

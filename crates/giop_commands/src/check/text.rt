@@ -5,12 +5,12 @@ ghost use Rattle.std.specs.Io.KnownBytes.{IsAtEnd};
 ghost use Rattle.giop_commands.specs.Check.{AreLimits, ChecksText};
 
 use crate::check::{Checking, check_stream};
+use giop_json::interface_from_json;
 use giop_show::failure::Failure;
 use giop_show::form::refuse_in;
 use giop_show::pieces::{PieceBuffer, drain};
 use giop_show::status::Status;
 use giop_show::{BehindFault, form_refusal};
-use giop_types::Interface;
 use std::alloc::Global;
 use std::io::{Read, Write};
 
@@ -31,7 +31,7 @@ pub fn check_text<R: Read, W: Write>(
     ensures end { OnOk result (checking.behind ≡ BehindFault.Read
         → IsAtEnd (R.remaining reader.new)) }
 {
-    match Interface::from_json(alloc, interface) {
+    match interface_from_json(alloc, interface) {
         Ok(interface) => check_stream(alloc, &interface, checking, reader, writer),
         Err(fault) => {
             let line = form_refusal(fault)?;

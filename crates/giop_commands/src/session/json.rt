@@ -3,12 +3,13 @@
 ghost use Rattle.std.specs.Prelude.{◌≡◌, ◌++◌, ◌∷◌, [], option_map, IfOk};
 ghost use Rattle.serde_json.specs.View.{view, items_view};
 ghost use Rattle.giop_types.specs.Descriptions.CheckedShape.{checked_shape};
-ghost use Rattle.giop_types.specs.JsonForms.FromJson.{Shows, is_object_of};
+ghost use Rattle.giop_json.specs.FromJson.{Shows, is_object_of};
 ghost use Rattle.giop_types.specs.Values.Views.{value_view};
 ghost use Rattle.giop_commands.specs.Session.Forms.{each_value, made_of, number_in, octets_in, value_in, values_in};
 
 use giop_cdr::OctetList;
-use giop_types::{CheckedDesc, Desc, FormFault, Parameter, Value, ValueList, value_from_json};
+use giop_json::{FormFault, value_from_json};
+use giop_types::{CheckedDesc, Desc, Parameter, Value, ValueList};
 use serde_json::Value as Json;
 use std::alloc::{AllocError, Global};
 

@@ -26,7 +26,7 @@ use std::io::Write;
 pub trait Streamed: Tabled {
     ghost use Rattle.std.specs.Prelude.{◌≡◌, ℕ, List, IfOk};
     ghost use Rattle.std.specs.String.{string_bytes};
-    ghost use Rattle.giop_types.specs.declared.json.interface.Interface.{Interface};
+    ghost use Rattle.giop_types.specs.declared.interfaces.interface.Interface.{Interface};
     ghost use Rattle.giop_forms.specs.declared.line_form.LineForm.{LineForm};
 
     ghost told: { LineForm → Interface → ℕ → Self.Entry → List ℕ };

@@ -5,7 +5,7 @@ ghost use Rattle.giop_ior.specs.CorbalocReading.{corbaloc_of};
 ghost use Rattle.giop_ior.specs.CorbalocWriting.{corbaloc_text};
 ghost use Rattle.giop_ior.specs.Ior.{ior_layout};
 ghost use Rattle.giop_msg.specs.Version.{version_of};
-ghost use Rattle.giop_types.specs.IorText.{ior_text_of};
+ghost use Rattle.giop_ior_text.specs.IorText.{ior_text_of};
 ghost use Rattle.giop_show.specs.declared.failure.Failure.TheVariants.{Memory};
 ghost use Rattle.giop_commands.specs.Session.Target.{at_first, at_profile, by_corbaloc, by_reference, corbaloc_at, first_iiop, iiop_in, is_reference, place_in, said, target_of};
 

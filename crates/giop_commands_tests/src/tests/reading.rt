@@ -1,10 +1,10 @@
 //! `dump` over readers that are interrupted, fail or never end, and over a writer that is watched.
 use giop_dumping::{MESSAGE_LIMIT, dump_stream};
 use giop_forms::LineForm;
+use giop_json::NumberForm;
 use giop_show::BehindFault;
 use giop_show::failure::Failure;
 use giop_show::status::Status;
-use giop_types::NumberForm;
 use std::io;
 use std::io::{ErrorKind, Read, Write};
 use std::test::Fail;

@@ -1,5 +1,6 @@
 //! An interface that tests share. Calls and answers that are read, and those that are refused, are
 //! cases of the built program (tests/cases/calls, answers, call_words, serving).
+use giop_json::interface_from_json;
 use giop_types::Interface;
 use std::alloc::Global;
 use std::test::Fail;
@@ -13,7 +14,7 @@ const INTERFACE: &str = "{\"operations\":{\"ping\":{},\
     \"exceptions\":{\"IDL:Demo/Bad:1.0\":[[\"code\",\"long\"]]}}";
 
 pub fn interface(alloc: Global) -> Result<Interface, Fail> {
-    match Interface::from_json(alloc, INTERFACE.as_bytes()) {
+    match interface_from_json(alloc, INTERFACE.as_bytes()) {
         Ok(interface) => Ok(interface),
         Err(_) => Err(Fail::new("the interface is refused")),
     }

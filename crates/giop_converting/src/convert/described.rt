@@ -7,10 +7,10 @@ use crate::convert::refuse;
 use crate::convert::value::{convert_decode, convert_encode};
 use giop_cdr::Order;
 use giop_forms::Way;
+use giop_json::desc_from_json;
 use giop_show::failure::Failure;
 use giop_show::form_refusal;
 use giop_show::status::Status;
-use giop_types::desc_from_json;
 use std::alloc::Global;
 use std::io::Write;
 

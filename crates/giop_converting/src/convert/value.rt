@@ -6,26 +6,24 @@ ghost use Rattle.serde_json.specs.Data.{Data};
 ghost use Rattle.serde_json.specs.Written.{compact_text};
 ghost use Rattle.giop_cdr.specs.declared.fault.CdrKind.TheVariants.{NoMemory as octets_no_memory};
 ghost use Rattle.giop_cdr.specs.Reading.Cursor.{Cursor};
-ghost use Rattle.giop_types.specs.declared.json.form_fault.FormFault.TheVariants.{NoMemory};
+ghost use Rattle.giop_json.specs.declared.form_fault.FormFault.TheVariants.{NoMemory};
 ghost use Rattle.giop_types.specs.Descriptions.CheckedShape.{checked_shape};
 ghost use Rattle.giop_types.specs.Coding.Decoding.{decode_at};
-ghost use Rattle.giop_types.specs.JsonForms.DescFromJson.{json_in};
+ghost use Rattle.giop_json.specs.DescFromJson.{json_in};
 ghost use Rattle.giop_types.specs.Values.Fits.{fits};
-ghost use Rattle.giop_types.specs.JsonForms.FromJson.{from_data};
-ghost use Rattle.giop_types.specs.JsonForms.ToJson.{to_data};
+ghost use Rattle.giop_json.specs.FromJson.{from_data};
+ghost use Rattle.giop_json.specs.ToJson.{to_data};
 ghost use Rattle.giop_types.specs.Values.Views.{value_view};
 ghost use Rattle.giop_converting.specs.Convert.{ConvertsEncode, ConvertsDecode, RefusedForm, RefusedOctets, value_octets, reader_of};
 
 use crate::convert::{refuse, write_line};
 use giop_cdr::{CdrFault, CdrIn, CdrKind, CdrOut, EncodeFault, Order, SliceOctets};
+use giop_json::{FormFault, NumberForm, parse_json, value_from_json, value_to_json_in};
 use giop_lines::RefusalLine;
 use giop_show::failure::Failure;
 use giop_show::status::Status;
 use giop_show::{form_refusal, unended};
-use giop_types::{
-    CheckedDesc, FormFault, NumberForm, Value, decode, encode, parse_json, value_from_json,
-    value_to_json_in,
-};
+use giop_types::{CheckedDesc, Value, decode, encode};
 use hex::FromHexError;
 use std::alloc::{AllocError, Global};
 use std::io::Write;

@@ -10,10 +10,10 @@ use Rattle.giop_msg.specs.declared.messages.request_fault.RequestFault.{RequestF
 use Rattle.giop_msg.specs.declared.messages.request_fault.RequestFault.TheVariants.{Header}
 use Rattle.giop_msg.specs.declared.msg.Msg.{Msg}
 use Rattle.giop_msg.specs.Messages.RequestAnswer.{request_of_joined}
-use Rattle.giop_types.specs.declared.json.form_fault.FormFault.{FormFault}
-use Rattle.giop_types.specs.declared.json.interface.Interface.{Interface}
-use Rattle.giop_types.specs.JsonForms.DescFromJson.{json_in}
-use Rattle.giop_types.specs.JsonForms.InterfaceFromJson.{interface_told, interface_view}
+use Rattle.giop_json.specs.declared.form_fault.FormFault.{FormFault}
+use Rattle.giop_types.specs.declared.interfaces.interface.Interface.{Interface}
+use Rattle.giop_json.specs.DescFromJson.{json_in}
+use Rattle.giop_json.specs.InterfaceFromJson.{interface_told, interface_view}
 use Rattle.giop_lines.specs.DumpJson.{ins_json, joined_json, undecoded_json, unjoined_json}
 use Rattle.giop_lines.specs.BodyLines.{ins_line, joined_line, undecoded_line, unjoined_line}
 use Rattle.giop_lines.specs.declared.refusal.RefusalLine.TheVariants.{Form}

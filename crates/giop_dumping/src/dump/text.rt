@@ -8,11 +8,11 @@ ghost use Rattle.giop_show.specs.Status.{IsJudged};
 use crate::dump::dump_by;
 use crate::dump::teller::Teller;
 use giop_forms::LineForm;
+use giop_json::interface_from_json;
 use giop_show::failure::Failure;
 use giop_show::form::refuse_in;
 use giop_show::status::Status;
 use giop_show::{BehindFault, form_refusal};
-use giop_types::Interface;
 use std::alloc::Global;
 use std::io::{Read, Write};
 
@@ -35,7 +35,7 @@ pub fn dump_text<R: Read, W: Write>(
     ensures done { IfOk result (λ status. status ≡ Status.Done → IsAtEnd (R.remaining reader.new)) }
     ensures judged { IfOk result IsJudged }
 {
-    match Interface::from_json(alloc, interface) {
+    match interface_from_json(alloc, interface) {
         Ok(interface) => {
             let mut teller = Teller::of_bodies(alloc, &interface, gathered as usize, form);
             dump_by(alloc, &mut teller, limit, reader, writer, behind)

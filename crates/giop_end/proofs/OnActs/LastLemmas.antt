@@ -5,7 +5,7 @@ use Rattle.giop_cdr.specs.declared.encode_fault.EncodeFault.{EncodeFault}
 use Rattle.giop_cdr.specs.declared.encode_fault.EncodeFault.TheVariants as encode
 use Rattle.giop_frag.specs.Gathered.{Pieces}
 use Rattle.giop_ids.specs.Runs.{RefusedAs, refusal_of, within}
-use Rattle.giop_types.specs.declared.json.interface.Interface.{Interface}
+use Rattle.giop_types.specs.declared.interfaces.interface.Interface.{Interface}
 use Rattle.giop_msg.specs.declared.messages.reply.Reply.{Reply}
 use Rattle.giop_msg.specs.declared.messages.request.Request.{Request}
 use Rattle.giop_msg.specs.declared.msg.Msg.{Msg}

@@ -8,7 +8,7 @@ use Rattle.giop_calls.specs.declared.fault.CallFault.TheVariants.{Unfit}
 use Rattle.giop_end.specs.declared.session_fault.SessionFault.{SessionFault}
 use Rattle.giop_end.specs.declared.session_fault.SessionFault.TheVariants.{NoMemory}
 use Rattle.giop_ids.specs.Runs.{Rules}
-use Rattle.giop_types.specs.declared.json.interface.Interface.{Interface}
+use Rattle.giop_types.specs.declared.interfaces.interface.Interface.{Interface}
 use Rattle.giop_msg.specs.declared.kind.Kind.TheVariants as message
 use Rattle.giop_msg.specs.Messages.Reply.{reply}
 use Rattle.giop_msg.specs.declared.messages.reply.Reply.{Reply as Answer}

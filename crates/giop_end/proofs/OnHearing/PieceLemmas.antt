@@ -2,7 +2,7 @@
 use Rattle.std.proofs.Common.{◌≡◌, ℕ, Bool, true, false, cond, not, List, ◌++◌, length, Option, Some, None, is_some, Result, Err, IsOk, refl, sym, ap, subst, ◌∙◌, ◌&&◌, inl}
 use Rattle.std.specs.FinMap as finite
 use Rattle.giop_cdr.specs.declared.order.Order.{Order}
-use Rattle.giop_types.specs.declared.json.interface.Interface.{Interface}
+use Rattle.giop_types.specs.declared.interfaces.interface.Interface.{Interface}
 use Rattle.giop_frag.specs.Gathered.{Pieces, is_over, order_fault, same_order}
 use Rattle.giop_msg.specs.declared.msg.Msg.{Msg}
 use Rattle.giop_mux.specs.declared.step.Step.{Step}

@@ -1,7 +1,7 @@
 -- What a message does at an end: it ends the session, or it is an act on the call of one id.
 use Rattle.std.specs.Prelude.{◌≡◌, ◌⊎◌, ℕ, Bool, List, drop, Option, Some, None, Result, Ok, Err}
 use Rattle.giop_cdr.specs.declared.fault.CdrFault.{CdrFault}
-use Rattle.giop_types.specs.declared.json.interface.Interface.{Interface}
+use Rattle.giop_types.specs.declared.interfaces.interface.Interface.{Interface}
 use Rattle.giop_ids.specs.Runs.{Does, Rules}
 use Rattle.giop_msg.specs.declared.kind.Kind.{Kind}
 use Rattle.giop_msg.specs.declared.kind.Kind.TheVariants as message

@@ -1,11 +1,11 @@
 //! The text of an interface's file: as it was given, and in the plain form, in which no type has a
-//! name. `Interface::from_json` reads the latter.
+//! name. `interface_from_json` reads the latter.
 ghost use Rattle.std.specs.Prelude.{◌≡◌, IfOk};
 ghost use Rattle.giop_files.specs.InterfaceText.{given_text, plain_text};
 
+use giop_json::FormFault;
 use giop_names::plain_interface;
 use giop_show::failure::Failure;
-use giop_types::FormFault;
 use std::alloc::Global;
 
 /// The text of a file that is to be an interface.

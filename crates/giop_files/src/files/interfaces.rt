@@ -8,9 +8,10 @@ use crate::files::interface_text::InterfaceText;
 use crate::report::refusals::refuse_interface;
 use crate::{files, report};
 use giop_forms::LineForm;
+use giop_json::{FormFault, interface_from_json};
 use giop_show::failure::Failure;
 use giop_show::status::Status;
-use giop_types::{FormFault, Interface};
+use giop_types::Interface;
 use giop_words::FileWord;
 use std::alloc::{AllocError, Global};
 
@@ -85,7 +86,7 @@ pub fn join_offers<'b, 'a>(
     let mut all = Interface::empty(alloc);
     let mut own: Vec<(Vec<u8>, Interface)> = Vec::new(alloc);
     for one in offered {
-        let interface = match Interface::from_json(alloc, one.text.as_slice()) {
+        let interface = match interface_from_json(alloc, one.text.as_slice()) {
             Ok(interface) => interface,
             Err(FormFault::NoMemory) => return Err(AllocError),
             Err(_) => return Ok(Joined::Refused(one)),

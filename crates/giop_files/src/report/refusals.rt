@@ -9,11 +9,11 @@ use crate::files::interface_text::InterfaceText;
 use crate::report;
 use crate::report::texts;
 use giop_forms::LineForm;
+use giop_json::{FormFault, interface_from_json};
 use giop_lines::RefusalLine;
 use giop_show::failure::Failure;
 use giop_show::status::{Limit, Status};
 use giop_show::{form_refusal, refuse_in};
-use giop_types::{FormFault, Interface};
 use giop_where::Place;
 use std::io;
 use std::io::{BufWriter, Write};
@@ -27,7 +27,7 @@ pub(crate) fn refuse_interface(
 ) -> Status
     ensures { IsNoInterface text.now → IsRefused result }
 {
-    match Interface::from_json(rt.alloc(), text.as_slice()) {
+    match interface_from_json(rt.alloc(), text.as_slice()) {
         Ok(_) => Status::Done,
         Err(fault) => {
             texts::interface(rt, rt.alloc(), file, text);

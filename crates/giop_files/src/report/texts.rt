@@ -4,8 +4,8 @@
 use crate::files::interface_text::InterfaceText;
 use crate::places;
 use crate::report::path_shown::PathShown;
+use giop_json::{FormFault, interface_from_json};
 use giop_show::status::Limit;
-use giop_types::{FormFault, Interface};
 use giop_where::{Place, Role};
 use hex::FromHexError;
 use serde_json::Value as Json;
@@ -15,7 +15,7 @@ use std::io;
 /// Prints what is wrong with the text of an interface, and where, as far as that is known; nothing
 /// where it is an interface.
 pub fn interface(rt: &impl Eprint, alloc: Global, file: &str, text: &InterfaceText) {
-    let Err(fault) = Interface::from_json(alloc, text.as_slice()) else {
+    let Err(fault) = interface_from_json(alloc, text.as_slice()) else {
         return;
     };
     if !text.is_plain() && fault != FormFault::BadJson && fault != FormFault::NoMemory {

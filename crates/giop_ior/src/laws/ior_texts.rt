@@ -1,7 +1,7 @@
 //! Laws of the text of a reference (CORBA 3.3 Part 2, 7.6.9): what is read, and what is written.
 //! Each function's contract is one of them; the bodies are empty, and no program calls them.
 ghost use Rattle.std.specs.Prelude.{◌≡◌, List, ℕ, Ok, true};
-ghost use Rattle.giop_types.specs.IorText.{IorText, ReadsTexts, ior_text_of, text_written};
+ghost use Rattle.giop_ior_text.specs.IorText.{IorText, ReadsTexts, ior_text_of, text_written};
 ghost use Rattle.giop_ior.specs.Ior.{Reference, ior_layout};
 ghost use Rattle.giop_ior.specs.Written.{IsOfOctets};
 

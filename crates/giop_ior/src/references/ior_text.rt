@@ -1,17 +1,17 @@
-//! The text of a reference (CORBA 3.3 Part 2, 7.6.9), read and written. giop_types makes octets of
+//! The text of a reference (CORBA 3.3 Part 2, 7.6.9), read and written. giop_ior_text makes octets of
 //! its digits, by its `specs/IorText.antt`; here the octets are a reference.
 ghost use Rattle.std.specs.Prelude.{◌≡◌, ◌↔◌, false, true, ℕ, List, Ok, IfOk, IsErrOf, OnOk};
 ghost use Rattle.giop_cdr.specs.declared.order.Order.{Order};
 ghost use Rattle.giop_cdr.specs.Layout.{AreOctets};
-ghost use Rattle.giop_types.specs.IorText.{IorText, encapsulated, ior_text_of, prefixed, text_written};
-ghost use Rattle.giop_types.specs.IorTextFault.{AnswersOrWants, IsAnswered};
+ghost use Rattle.giop_ior_text.specs.IorText.{IorText, encapsulated, ior_text_of, prefixed, text_written};
+ghost use Rattle.giop_ior_text.specs.IorTextFault.{AnswersOrWants, IsAnswered};
 ghost use Rattle.giop_ior.specs.Ior.{Reference, ior_layout};
 
 use crate::references::ior::Ior;
 use crate::references::ior_reading::view_ior;
 use crate::references::ior_writing::append_ior;
 use giop_cdr::{CdrIn, CdrOut, EncodeFault, Order, SliceOctets};
-use giop_types::{IorTextFault, ior_octets_from_text, ior_octets_to_text, open_octets};
+use giop_ior_text::{IorTextFault, ior_octets_from_text, ior_octets_to_text, open_octets};
 use std::alloc::{AllocError, Global};
 
 /// The reference that a text is, in octets (CORBA 3.3 Part 2, 7.6.9): `IOR:` in any case, and in
@@ -38,7 +38,7 @@ pub fn ior_from_text(alloc: Global, text: &[u8]) -> Result<Ior, IorTextFault>
     ior_of(alloc, text)
 }
 
-#[tactic(auto, unfolding(giop_types::specs::IorText::ior_text_of))]
+#[tactic(auto, unfolding(giop_ior_text::specs::IorText::ior_text_of))]
 fn ior_of(alloc: Global, text: &[u8]) -> Result<Ior, IorTextFault>
     ensures { AnswersOrWants (λ ior. ior) result (ior_text_of ior_layout.read text.now) }
 {
@@ -47,7 +47,7 @@ fn ior_of(alloc: Global, text: &[u8]) -> Result<Ior, IorTextFault>
 }
 
 // The reference that octets encapsulate.
-#[tactic(auto, unfolding(giop_types::specs::IorText::encapsulated, giop_cdr::specs::Encapsulation::OfLayout::inside_at))]
+#[tactic(auto, unfolding(giop_ior_text::specs::IorText::encapsulated, giop_cdr::specs::Encapsulation::OfLayout::inside_at))]
 fn encapsulated(alloc: Global, octets: &[u8]) -> Result<Ior, IorTextFault>
     ensures { AnswersOrWants (λ ior. ior) result (encapsulated ior_layout.read octets.now) }
 {
@@ -85,7 +85,7 @@ pub fn ior_to_text(alloc: Global, ior: &Ior) -> Result<Vec<u8>, EncodeFault>
     Ok(text_of_octets(alloc, out.as_slice())?)
 }
 
-// The text of octets, as giop_types makes it, and that each is below 256, as its type says.
+// The text of octets, as giop_ior_text makes it, and that each is below 256, as its type says.
 fn text_of_octets(alloc: Global, octets: &[u8]) -> Result<Vec<u8>, AllocError>
     ensures written { IfOk result (λ text. text.items ≡ prefixed octets.now) }
     ensures held { OnOk result (AreOctets octets.now) }

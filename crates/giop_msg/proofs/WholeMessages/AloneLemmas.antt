@@ -5,7 +5,7 @@ use Rattle.giop_cdr.specs.declared.fault.CdrFault.{CdrFault}
 use Rattle.giop_cdr.specs.Ending.{IsLawfulEnding, ended}
 use Rattle.giop_cdr.specs.Writing.Output.{Output}
 use Rattle.giop_cdr.proofs.EndingLemmas.{ended_is}
-use Rattle.giop_types.specs.declared.json.parameters.Parameter.{Parameter}
+use Rattle.giop_types.specs.declared.interfaces.parameters.Parameter.{Parameter}
 use Rattle.giop_types.specs.Values.Fits.{fields_fit}
 use Rattle.giop_types.specs.Values.Tree.{Tree}
 use Rattle.giop_msg.specs.Messages.Alone.{AreTold, DecodesAlone, SpellsAlone, octets_alone, values_alone}

@@ -9,7 +9,7 @@ use Rattle.giop_cdr.specs.Ending.{Ending, IsLawfulEnding, ended, from_multiple_o
 use Rattle.giop_cdr.specs.RoundTrip.{IsSpelled}
 use Rattle.giop_cdr.proofs.EndingLemmas.{from_multiple_of_8_is}
 use Rattle.giop_cdr.proofs.LayoutLemmas.{and_true}
-use Rattle.giop_types.specs.declared.json.parameters.Parameter.{Parameter}
+use Rattle.giop_types.specs.declared.interfaces.parameters.Parameter.{Parameter}
 use Rattle.giop_types.specs.Coding.Spells.{Spells, SpellsFields}
 use Rattle.giop_types.specs.Coding.Written.{fields_out}
 use Rattle.giop_types.specs.Descriptions.Full.{is_full, are_full}

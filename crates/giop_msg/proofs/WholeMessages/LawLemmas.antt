@@ -5,8 +5,8 @@ use Rattle.giop_cdr.specs.declared.fault.CdrFault.{CdrFault}
 use Rattle.giop_cdr.specs.Reading.Cursor.{Cursor}
 use Rattle.giop_cdr.specs.Reading.Values.{Reading}
 use Rattle.giop_cdr.specs.Ending.{Ending, IsLawfulEnding}
-use Rattle.giop_types.specs.declared.json.interface.Interface.{Interface}
-use Rattle.giop_types.specs.declared.json.interface.Operation.{Operation}
+use Rattle.giop_types.specs.declared.interfaces.interface.Interface.{Interface}
+use Rattle.giop_types.specs.declared.interfaces.interface.Operation.{Operation}
 use Rattle.giop_msg.specs.declared.messages.reply.Reply.{Reply}
 use Rattle.giop_msg.specs.declared.messages.request.Request.{Request}
 use Rattle.giop_msg.specs.declared.messages.request_fault.RequestFault.{RequestFault}

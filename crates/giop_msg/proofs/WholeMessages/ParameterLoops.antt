@@ -7,7 +7,7 @@ use Rattle.giop_cdr.specs.Reading.Cursor.{Cursor}
 use Rattle.giop_cdr.specs.Reading.Values.{Reading, past}
 use Rattle.giop_cdr.specs.Writing.Output.{Output}
 use Rattle.giop_cdr.proofs.Reading.ItemLoops.{with_front, regroup}
-use Rattle.giop_types.specs.declared.json.parameters.Parameter.{Parameter}
+use Rattle.giop_types.specs.declared.interfaces.parameters.Parameter.{Parameter}
 use Rattle.giop_types.specs.declared.value.Value.{Value}
 use Rattle.giop_types.specs.Coding.Decoding.{decode_at, fields_at}
 use Rattle.giop_types.specs.Coding.Written.{value_out, fields_out}

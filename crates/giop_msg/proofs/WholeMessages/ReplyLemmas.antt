@@ -10,9 +10,9 @@ use Rattle.giop_cdr.proofs.LayoutLemmas.{both, number_is, signed_is, text_is, su
 use Rattle.giop_ior.specs.Ior.{Reference as IorValue}
 use Rattle.giop_ior.specs.ServiceContext.{service_contexts}
 use Rattle.giop_ior.proofs.IorLemmas.{ior_is}
-use Rattle.giop_types.specs.declared.json.interface.Interface.{Interface}
-use Rattle.giop_types.specs.declared.json.offer.Offer.{Offer}
-use Rattle.giop_types.specs.declared.json.parameters.Parameter.{Parameter}
+use Rattle.giop_types.specs.declared.interfaces.interface.Interface.{Interface}
+use Rattle.giop_types.specs.declared.interfaces.offer.Offer.{Offer}
+use Rattle.giop_types.specs.declared.interfaces.parameters.Parameter.{Parameter}
 use Rattle.giop_msg.specs.declared.messages.reply.Reply.{Reply}
 use Rattle.giop_msg.specs.declared.messages.reply_body.ReplyBody.{ReplyBody}
 use Rattle.giop_msg.specs.declared.messages.reply_body.ReplyBody.TheVariants.{Forward, ForwardPerm}

@@ -10,9 +10,9 @@ use Rattle.giop_cdr.specs.Writing.Outcome.{Grows}
 use Rattle.giop_cdr.proofs.Writing.WriterLemmas.{grown_back, grows_not, grows_then}
 use Rattle.giop_cdr.proofs.EndingLemmas.{never_ends}
 use Rattle.giop_cdr.proofs.LayoutLemmas.{both}
-use Rattle.giop_types.specs.declared.json.interface.Interface.{Interface}
-use Rattle.giop_types.specs.declared.json.offer.Offer.{Offer}
-use Rattle.giop_types.specs.declared.json.parameters.Parameter.{Parameter}
+use Rattle.giop_types.specs.declared.interfaces.interface.Interface.{Interface}
+use Rattle.giop_types.specs.declared.interfaces.offer.Offer.{Offer}
+use Rattle.giop_types.specs.declared.interfaces.parameters.Parameter.{Parameter}
 use Rattle.giop_types.specs.declared.value.Value.{Value}
 use Rattle.giop_types.specs.Values.Fits.{fields_fit}
 use Rattle.giop_types.specs.Values.Views.{value_view}

@@ -7,9 +7,9 @@ use Rattle.giop_cdr.specs.Reading.Values.{◌>>=◌, Reading}
 use Rattle.giop_cdr.specs.Layout.{AreOctets}
 use Rattle.giop_cdr.specs.Ending.{IsLawfulEnding, ended, made_of, nothing, leads}
 use Rattle.giop_cdr.proofs.EndingLemmas.{ended_is, leads_is, made_of_is, nothing_is, never_ends}
-use Rattle.giop_types.specs.declared.json.interface.Interface.{Interface}
-use Rattle.giop_types.specs.declared.json.interface.Operation.{Operation}
-use Rattle.giop_types.specs.declared.json.parameters.Parameter.{Parameter}
+use Rattle.giop_types.specs.declared.interfaces.interface.Interface.{Interface}
+use Rattle.giop_types.specs.declared.interfaces.interface.Operation.{Operation}
+use Rattle.giop_types.specs.declared.interfaces.parameters.Parameter.{Parameter}
 use Rattle.giop_types.specs.Values.Tree.{Tree}
 use Rattle.giop_msg.specs.declared.messages.request.Request.{Request}
 use Rattle.giop_msg.specs.declared.messages.request_fault.RequestFault.{RequestFault}

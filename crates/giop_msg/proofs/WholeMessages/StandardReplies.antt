@@ -7,7 +7,7 @@ use Rattle.giop_cdr.specs.Layout.{number, signed, octets, text, such, field, giv
 use Rattle.giop_cdr.specs.Writing.Output.{number_out, signed_out, octets_out, string_out, sequence_out, items_out, padding_out}
 use Rattle.giop_ior.specs.Ior.{Reference}
 use Rattle.giop_ior.specs.ServiceContext.{service_context, service_contexts}
-use Rattle.giop_types.specs.declared.json.interface.Interface.{Interface}
+use Rattle.giop_types.specs.declared.interfaces.interface.Interface.{Interface}
 use Rattle.giop_msg.specs.declared.messages.completion.Completion.{Completion}
 use Rattle.giop_msg.specs.declared.messages.completion.Completion.TheVariants.{Yes, No, Maybe}
 use Rattle.giop_msg.specs.declared.messages.reply.Reply.{Reply}

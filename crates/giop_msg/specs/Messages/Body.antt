@@ -4,7 +4,7 @@ use Rattle.std.specs.Prelude.{List, map, ⊤}
 use Rattle.giop_cdr.specs.Layout.{Layout}
 use Rattle.giop_cdr.specs.Reading.Cursor.{Cursor, pad, skip}
 use Rattle.giop_cdr.specs.Ending.{Ending, from_multiple_of_8}
-use Rattle.giop_types.specs.declared.json.parameters.Parameter.{Parameter}
+use Rattle.giop_types.specs.declared.interfaces.parameters.Parameter.{Parameter}
 use Rattle.giop_types.specs.Coding.Decoding.{fields_at}
 use Rattle.giop_types.specs.Coding.Refusals.{RefusedFields}
 use Rattle.giop_types.specs.Coding.Spells.{SpellsFields}

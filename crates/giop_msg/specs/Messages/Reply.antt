@@ -9,11 +9,11 @@ use Rattle.giop_cdr.specs.Ending.{Ending, ended, leads, made_of, nothing}
 use Rattle.giop_cdr.specs.Layout.{Layout, number, signed, text, such, field, gives, chosen}
 use Rattle.giop_ior.specs.Ior.{ior_layout}
 use Rattle.giop_ior.specs.Ior.{Reference as IorValue}
-use Rattle.giop_types.specs.declared.json.interface.Interface.{Interface}
-use Rattle.giop_types.specs.declared.json.interface.Operation.{Operation}
-use Rattle.giop_types.specs.declared.json.offer.Offer.{Offer}
-use Rattle.giop_types.specs.declared.json.parameters.Parameter.{Parameter}
-use Rattle.giop_types.specs.declared.json.parameters.Parameters.{Parameters}
+use Rattle.giop_types.specs.declared.interfaces.interface.Interface.{Interface}
+use Rattle.giop_types.specs.declared.interfaces.interface.Operation.{Operation}
+use Rattle.giop_types.specs.declared.interfaces.offer.Offer.{Offer}
+use Rattle.giop_types.specs.declared.interfaces.parameters.Parameter.{Parameter}
+use Rattle.giop_types.specs.declared.interfaces.parameters.Parameters.{Parameters}
 use Rattle.giop_types.specs.Values.Tree.{Tree}
 use Rattle.giop_msg.specs.declared.messages.completion.Completion.{Completion}
 use Rattle.giop_msg.specs.declared.messages.completion.Completion.TheVariants.{Yes, No, Maybe}

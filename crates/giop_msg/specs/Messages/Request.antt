@@ -4,9 +4,9 @@ use Rattle.std.specs.BTreeMap.{get_by}
 use Rattle.std.specs.Ordering.{nat_cmp}
 use Rattle.std.specs.Cmp.Lexicographic.{slice_cmp}
 use Rattle.giop_cdr.specs.Ending.{Ending, ended, leads, made_of, nothing}
-use Rattle.giop_types.specs.declared.json.interface.Interface.{Interface}
-use Rattle.giop_types.specs.declared.json.interface.Operation.{Operation}
-use Rattle.giop_types.specs.declared.json.offer.Offer.{Offer}
+use Rattle.giop_types.specs.declared.interfaces.interface.Interface.{Interface}
+use Rattle.giop_types.specs.declared.interfaces.interface.Operation.{Operation}
+use Rattle.giop_types.specs.declared.interfaces.offer.Offer.{Offer}
 use Rattle.giop_types.specs.Objects.{offer_of}
 use Rattle.giop_msg.specs.declared.messages.request.Request.{Request}
 use Rattle.giop_msg.specs.declared.target.Target.TheVariants.{Key}

@@ -3,7 +3,7 @@
 ghost use Rattle.std.specs.Prelude.{◌≡◌, ℕ, List, Option};
 ghost use Rattle.giop_cdr.specs.declared.order.Order.{Order};
 ghost use Rattle.giop_cdr.specs.Ending.{ended};
-ghost use Rattle.giop_types.specs.declared.json.interface.Interface.{Interface};
+ghost use Rattle.giop_types.specs.declared.interfaces.interface.Interface.{Interface};
 ghost use Rattle.giop_msg.specs.declared.version.Version.{Version};
 ghost use Rattle.giop_msg.specs.Joined.{joined_from, whole_of_joined};
 ghost use Rattle.giop_msg.specs.Locate.{locate_request};

@@ -1,11 +1,12 @@
 //! Refused allocations: a framer, a head or a message that is out of memory is as it was, and the
 //! same call succeeds later.
 use giop_cdr::{CdrOut, EncodeFault, Order, SliceOctets};
+use giop_json::{FormFault, interface_from_json};
 use giop_msg::{
     Framer, Kind, LocateReply, LocateRequest, Reply, ReplyHead, Request, RequestHead, Version,
     WireFault, WireKind, can_cut, cut, read_pieces,
 };
-use giop_types::{FormFault, Interface};
+use giop_types::Interface;
 use std::alloc::Global;
 use std::test::Fail;
 
@@ -117,7 +118,7 @@ fn a_reply_head_without_memory_is_not_written(rt: HostRuntime) -> Result<(), Fai
 }
 
 fn add_interface(alloc: Global) -> Result<Interface, FormFault> {
-    again(|| Interface::from_json(alloc, ADD_INTERFACE))
+    again(|| interface_from_json(alloc, ADD_INTERFACE))
 }
 
 fn add_request(alloc: Global, interface: &Interface) -> Option<Request> {

@@ -1,7 +1,8 @@
 //! Faults that stand behind what takes memory: they are told whether memory is there or not.
 use giop_cdr::{CdrFault, CdrKind, Order, SliceOctets};
+use giop_json::{FormFault, interface_from_json};
 use giop_msg::{Reply, Request, RequestFault, Version};
-use giop_types::{FormFault, Interface};
+use giop_types::Interface;
 use std::alloc::Global;
 use std::test::Fail;
 
@@ -28,8 +29,8 @@ const OCTET_BEHIND: &[u8] = &[
 
 // Reads the interface, again where memory was wanting.
 fn interface(alloc: Global) -> Result<Interface, FormFault> {
-    match Interface::from_json(alloc, PUT) {
-        Err(FormFault::NoMemory) => Interface::from_json(alloc, PUT),
+    match interface_from_json(alloc, PUT) {
+        Err(FormFault::NoMemory) => interface_from_json(alloc, PUT),
         answer => answer,
     }
 }

@@ -1,6 +1,6 @@
 //! Files that are refused.
+use giop_json::FormFault;
 use giop_names::plain_interface;
-use giop_types::FormFault;
 use std::test::Fail;
 
 // A file, and why it is refused.

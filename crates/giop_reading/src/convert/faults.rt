@@ -3,10 +3,10 @@
 use giop_files::places;
 use giop_files::report::texts;
 use giop_forms::Way;
+use giop_ior_text::{IorTextFault, ior_octets_from_text};
+use giop_json::{desc_from_json, parse_json, value_from_json};
 use giop_show::unended;
-use giop_types::{
-    CheckedDesc, IorTextFault, desc_from_json, ior_octets_from_text, parse_json, value_from_json,
-};
+use giop_types::CheckedDesc;
 
 // How many octets stand before the digits of a reference.
 const IOR_PREFIX: usize = 4;

@@ -2,8 +2,8 @@
 use Rattle.std.proofs.Common.{◌≡◌, ℕ, List, Option, Some, refl}
 use Rattle.serde_json.specs.Data.{Data}
 use Rattle.serde_json.specs.Find.{get}
-use Rattle.giop_types.specs.declared.json.offer.Offer.{Offer}
-use Rattle.giop_types.specs.declared.json.parameters.Parameters.{Parameters}
+use Rattle.giop_types.specs.declared.interfaces.offer.Offer.{Offer}
+use Rattle.giop_types.specs.declared.interfaces.parameters.Parameters.{Parameters}
 use Rattle.giop_msg.specs.Messages.Reply.{exception_in}
 use Rattle.giop_commands.specs.Session.Forms.{octets_in}
 use Rattle.giop_serving.specs.Serve.AnswerForms.{raised, raised_in}

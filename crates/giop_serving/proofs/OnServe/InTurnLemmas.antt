@@ -5,7 +5,7 @@ use Rattle.std.proofs.lemmas.List.Sums.{sum_by-append}
 use Rattle.std.specs.Cmp.Lexicographic.{pointwise, same_text}
 use Rattle.serde_json.specs.Data.{Data, Items, array, item, no_items}
 use Rattle.serde_json.specs.Find.{at, get, get_item}
-use Rattle.giop_types.specs.JsonForms.JsonText.{text_of}
+use Rattle.giop_json.specs.JsonText.{text_of}
 use Rattle.giop_serving.specs.declared.serve.in_turn.AnswerName.{AnswerName}
 use Rattle.giop_serving.specs.Serve.InTurn.{ListsAreGivenInTurn, ObjectsPassApart, due_in, has_next, item_or_last, passed_by, passed_of, passed_through}
 use Rattle.giop_serving.specs.Serve.Objects.{Object}

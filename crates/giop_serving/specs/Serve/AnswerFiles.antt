@@ -6,15 +6,15 @@ use Rattle.std.specs.Prelude.{is_some, Result, Ok, Err}
 use Rattle.std.specs.declared.alloc.Global.{Global}
 use Rattle.serde_json.specs.Data.{Data, Items, no_items, item}
 use Rattle.serde_json.specs.Find.{as_array, get}
-use Rattle.giop_types.specs.declared.json.form_fault.FormFault.{FormFault}
-use Rattle.giop_types.specs.declared.json.form_fault.FormFault.TheVariants.{BadJson, BadShape}
-use Rattle.giop_types.specs.declared.json.form_fault.FormFault.TheVariants.{Unfit}
-use Rattle.giop_types.specs.declared.json.interface.Interface.{Interface}
-use Rattle.giop_types.specs.declared.json.interface.Operation.{Operation}
-use Rattle.giop_types.specs.declared.json.parameters.Parameter.{Parameter}
-use Rattle.giop_types.specs.JsonForms.DescFromJson.{json_in}
-use Rattle.giop_types.specs.JsonForms.FromJson.{in_object}
-use Rattle.giop_types.specs.JsonForms.JsonText.{text_of}
+use Rattle.giop_json.specs.declared.form_fault.FormFault.{FormFault}
+use Rattle.giop_json.specs.declared.form_fault.FormFault.TheVariants.{BadJson, BadShape}
+use Rattle.giop_json.specs.declared.form_fault.FormFault.TheVariants.{Unfit}
+use Rattle.giop_types.specs.declared.interfaces.interface.Interface.{Interface}
+use Rattle.giop_types.specs.declared.interfaces.interface.Operation.{Operation}
+use Rattle.giop_types.specs.declared.interfaces.parameters.Parameter.{Parameter}
+use Rattle.giop_json.specs.DescFromJson.{json_in}
+use Rattle.giop_json.specs.FromJson.{in_object}
+use Rattle.giop_json.specs.JsonText.{text_of}
 use Rattle.giop_serving.specs.declared.serve.answers.AnswerGiven.{AnswerGiven}
 use Rattle.giop_serving.specs.declared.serve.given.Sending.{Sending}
 use Rattle.giop_serving.specs.Serve.AnswerForms.{default_in, given_by}

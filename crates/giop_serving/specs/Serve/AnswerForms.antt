@@ -4,13 +4,13 @@ use Rattle.std.specs.Prelude.{ℕ, codes, if◌then◌else◌}
 use Rattle.std.specs.Prelude.{List, Option, Some, None, option_map, option_and_then}
 use Rattle.serde_json.specs.Data.{Data}
 use Rattle.serde_json.specs.Find.{get}
-use Rattle.giop_types.specs.declared.json.interface.Operation.{Operation}
-use Rattle.giop_types.specs.declared.json.offer.Offer.{Offer}
-use Rattle.giop_types.specs.declared.json.parameters.Parameter.{Parameter}
-use Rattle.giop_types.specs.declared.json.parameters.Parameters.{Parameters}
-use Rattle.giop_types.specs.JsonForms.DescFromJson.{by_key}
-use Rattle.giop_types.specs.JsonForms.FromJson.{in_object}
-use Rattle.giop_types.specs.JsonForms.JsonText.{text_of}
+use Rattle.giop_types.specs.declared.interfaces.interface.Operation.{Operation}
+use Rattle.giop_types.specs.declared.interfaces.offer.Offer.{Offer}
+use Rattle.giop_types.specs.declared.interfaces.parameters.Parameter.{Parameter}
+use Rattle.giop_types.specs.declared.interfaces.parameters.Parameters.{Parameters}
+use Rattle.giop_json.specs.DescFromJson.{by_key}
+use Rattle.giop_json.specs.FromJson.{in_object}
+use Rattle.giop_json.specs.JsonText.{text_of}
 use Rattle.giop_serving.specs.declared.serve.answers.AnswerGiven.{AnswerGiven}
 use Rattle.giop_serving.specs.declared.serve.answers.AnswerGiven.TheVariants.{Ok as result, User}
 use Rattle.giop_commands.specs.Session.Forms.{octets_in, values_in}

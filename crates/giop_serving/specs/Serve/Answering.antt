@@ -1,7 +1,7 @@
 -- What `serve` answers to what is stored for an id.
 use Rattle.std.specs.Prelude.{ℕ, pos, ◌==◌, Bool, true, false, List, [], Option, Some, None, is_some, if◌then◌else◌, codes}
-use Rattle.giop_types.specs.declared.json.interface.Interface.{Interface}
-use Rattle.giop_types.specs.declared.json.offer.Offer.{Offer}
+use Rattle.giop_types.specs.declared.interfaces.interface.Interface.{Interface}
+use Rattle.giop_types.specs.declared.interfaces.offer.Offer.{Offer}
 use Rattle.giop_types.specs.Values.Tree.{Tree}
 use Rattle.giop_msg.specs.declared.messages.completion.Completion.TheVariants.{No}
 use Rattle.giop_msg.specs.declared.messages.reply.Reply.{Reply as AnyReply}

@@ -12,9 +12,9 @@ use Rattle.giop_ior.specs.Ior.{Reference, ior_layout}
 use Rattle.giop_ior.specs.ToIor.{are_profiles, ior_of}
 use Rattle.giop_msg.specs.declared.messages.completion.Completion.{Completion}
 use Rattle.giop_msg.specs.declared.messages.completion.Completion.TheVariants.{Yes, No, Maybe}
-use Rattle.giop_types.specs.IorText.{ior_text_of}
-use Rattle.giop_types.specs.JsonForms.DescFromJson.{by_key}
-use Rattle.giop_types.specs.JsonForms.FromJson.{in_object}
+use Rattle.giop_ior_text.specs.IorText.{ior_text_of}
+use Rattle.giop_json.specs.DescFromJson.{by_key}
+use Rattle.giop_json.specs.FromJson.{in_object}
 use Rattle.giop_serving.specs.declared.serve.answers.AnswerGiven.{AnswerGiven}
 use Rattle.giop_serving.specs.declared.serve.answers.AnswerGiven.TheVariants.{System, Forward}
 use Rattle.giop_serving.specs.declared.serve.answers.AnswerGiven.TheVariants.{ForwardPerm}

@@ -6,7 +6,7 @@ use Rattle.std.specs.Prelude.{Option, Some, None, is_some, option_and_then}
 use Rattle.std.specs.Cmp.Lexicographic.{pointwise}
 use Rattle.serde_json.specs.Data.{Data, Items, array, item, no_items}
 use Rattle.serde_json.specs.Find.{as_array, at, get}
-use Rattle.giop_types.specs.JsonForms.JsonText.{text_of}
+use Rattle.giop_json.specs.JsonText.{text_of}
 use Rattle.giop_msg.specs.declared.messages.request.Request.{Request}
 use Rattle.giop_calls.specs.declared.server.entry.ServerEntry.{ServerEntry}
 use Rattle.giop_calls.specs.declared.server.entry.ServerEntry.TheVariants.{Asked}

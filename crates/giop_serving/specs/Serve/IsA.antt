@@ -3,11 +3,11 @@
 use Rattle.std.specs.Prelude.{ℕ, ◌||◌, nat_eq, codes, Bool, true, false, List, [], ◌∷◌, Option, Some, None, option_map, if◌then◌else◌}
 use Rattle.std.specs.Cmp.Lexicographic.{pointwise}
 use Rattle.serde_json.specs.Data.{Data}
-use Rattle.giop_types.specs.declared.json.parameters.Parameter.{Parameter}
+use Rattle.giop_types.specs.declared.interfaces.parameters.Parameter.{Parameter}
 use Rattle.giop_types.specs.Descriptions.CheckedShape.{checked_shape}
 use Rattle.giop_types.specs.Descriptions.Shape as shape
 use Rattle.giop_types.specs.Descriptions.Shape.{Shape}
-use Rattle.giop_types.specs.JsonForms.FromJson.{in_object}
+use Rattle.giop_json.specs.FromJson.{in_object}
 use Rattle.giop_types.specs.Values.Tree.{Tree, boolean_of, text_of}
 use Rattle.giop_msg.specs.declared.messages.reply_body.ReplyBody.{ReplyBody}
 use Rattle.giop_msg.specs.declared.messages.reply_body.ReplyBody.TheVariants.{NoException}

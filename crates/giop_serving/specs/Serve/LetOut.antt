@@ -1,7 +1,7 @@
 -- Which answers can go out as answers are sent: those of which the Reply of some version is one
 -- that an end sends, in this form and within these limits (CORBA 3.3 Part 2, 9.4.3 and 9.4.9).
 use Rattle.std.specs.Prelude.{ℕ, ◌||◌, Bool, List, [], Some}
-use Rattle.giop_types.specs.declared.json.interface.Interface.{Interface}
+use Rattle.giop_types.specs.declared.interfaces.interface.Interface.{Interface}
 use Rattle.giop_msg.specs.declared.messages.reply.Reply.{Reply}
 use Rattle.giop_msg.specs.declared.messages.request.Request.{Request}
 use Rattle.giop_msg.specs.declared.target.Target.TheVariants.{Profile}

@@ -2,7 +2,7 @@
 -- in ascending order of the ids, and puts every piece out (CORBA 3.3 Part 2, 9.4).
 use Rattle.std.specs.Prelude.{◌≡◌, ℕ, ◌<◌, true, false, List, [], length, map, Option, Some, None, Ok}
 use Rattle.std.specs.FinMap as finite
-use Rattle.giop_types.specs.declared.json.interface.Interface.{Interface}
+use Rattle.giop_types.specs.declared.interfaces.interface.Interface.{Interface}
 use Rattle.giop_msg.specs.declared.messages.reply.Reply.{Reply as AnyReply}
 use Rattle.giop_calls.specs.declared.server.entry.ServerEntry.{ServerEntry}
 use Rattle.giop_calls.specs.declared.fault.CallFault.{CallFault}

@@ -6,7 +6,7 @@ use Rattle.std.specs.Io.KnownBytes.{Appends}
 use Rattle.giop_msg.specs.Stream.{Unread}
 use Rattle.giop_end.specs.declared.limits.Limits.{Limits}
 use Rattle.giop_end.specs.declared.session_fault.SessionFault.{SessionFault}
-use Rattle.giop_types.specs.declared.json.interface.Interface.{Interface}
+use Rattle.giop_types.specs.declared.interfaces.interface.Interface.{Interface}
 use Rattle.giop_end.specs.Pumping.{Between, between}
 use Rattle.giop_calls.specs.ServerTable.{is_closed}
 use Rattle.giop_serving.specs.declared.serve.given.Serving.{Serving}

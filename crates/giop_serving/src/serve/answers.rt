@@ -2,8 +2,8 @@
 //! form is `answers_in` in specs/Serve/AnswerFiles.antt: change both.
 ghost use Rattle.std.specs.Prelude.{◌≡◌, ◌&&◌, ◌⊎◌, IfOk, IfErr, string_bytes};
 ghost use Rattle.serde_json.specs.View.{view};
-ghost use Rattle.giop_types.specs.declared.json.form_fault.FormFault.TheVariants.{NoMemory};
-ghost use Rattle.giop_types.specs.JsonForms.JsonText.{text_of};
+ghost use Rattle.giop_json.specs.declared.form_fault.FormFault.TheVariants.{NoMemory};
+ghost use Rattle.giop_json.specs.JsonText.{text_of};
 ghost use Rattle.giop_serving.specs.Serve.AnswerFiles.{answers_in, are_fit, default_count, default_formed, has_own, member_count, own_count};
 ghost use Rattle.giop_serving.specs.Serve.AnswerForms.{given_in, given_under};
 
@@ -18,10 +18,9 @@ use crate::serve::given::Sending;
 use giop_cdr::OctetList;
 use giop_commands::session::json::is_object_of;
 use giop_ior::Ior;
+use giop_json::{FormFault, parse_json};
 use giop_msg::Completion;
-use giop_types::{
-    FormFault, Interface, Offer, Operation, Parameter, Parameters, ValueList, parse_json,
-};
+use giop_types::{Interface, Offer, Operation, Parameter, Parameters, ValueList};
 use serde_json::Value as Json;
 use std::alloc::{AllocError, Global};
 

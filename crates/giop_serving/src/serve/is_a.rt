@@ -2,15 +2,16 @@
 //! specs/Serve/IsA.antt: change both.
 ghost use Rattle.std.specs.Prelude.{◌≡◌, ◌∷◌, [], map, IfOk};
 ghost use Rattle.serde_json.specs.View.{view};
-ghost use Rattle.giop_types.specs.JsonForms.FromJson.{Shows};
+ghost use Rattle.giop_json.specs.FromJson.{Shows};
 ghost use Rattle.giop_types.specs.Values.Tree.{boolean_of};
 ghost use Rattle.giop_types.specs.Values.Views.{value_view};
 ghost use Rattle.giop_serving.specs.Serve.IsA.{are_boolean, is_a, is_a_body, is_a_in, is_asked};
 
 use crate::serve::answers::AnswerGiven;
 use giop_commands::session::json::{is_object_of, octets_of};
+use giop_json::FormFault;
 use giop_msg::ReplyBody;
-use giop_types::{Desc, FormFault, Parameter, Value, ValueList};
+use giop_types::{Desc, Parameter, Value, ValueList};
 use serde_json::Value as Json;
 use std::alloc::{AllocError, Global};
 

@@ -2,7 +2,7 @@
 //! specs/Session/Target.antt of giop_commands: change both.
 ghost use Rattle.std.specs.Prelude.{◌≡◌, ◌∷◌, [], IfOk, Ok};
 ghost use Rattle.giop_ior.specs.Ior.{ior_layout};
-ghost use Rattle.giop_types.specs.IorText.{ior_text_of};
+ghost use Rattle.giop_ior_text.specs.IorText.{ior_text_of};
 ghost use Rattle.giop_commands.specs.Session.Target.{profile_at, reference_at};
 
 use giop_cdr::{EncodeFault, OctetList};

@@ -11,8 +11,8 @@ use Rattle.giop_cdr.specs.declared.order.Order.{Order}
 use Rattle.giop_cdr.specs.declared.order.Order.TheVariants.{Big, Little}
 use Rattle.giop_ior.specs.ServiceContext.{service_contexts}
 use Rattle.giop_ior.specs.declared.references.service_context.ServiceContext.{ServiceContext}
-use Rattle.giop_types.specs.declared.json.interface.Interface.{Interface}
-use Rattle.giop_types.specs.declared.json.interface.Operation.{Operation}
+use Rattle.giop_types.specs.declared.interfaces.interface.Interface.{Interface}
+use Rattle.giop_types.specs.declared.interfaces.interface.Operation.{Operation}
 use Rattle.giop_msg.specs.Cut.{AreFragments, CanCut, IsCut, message_of}
 use Rattle.giop_msg.specs.Header.{ulong_octets}
 use Rattle.giop_msg.specs.Joined.{joined_from}

@@ -4,7 +4,7 @@ use Rattle.std.specs.List.{All}
 use Rattle.giop_cdr.specs.Ending.{ended}
 use Rattle.giop_cdr.specs.declared.order.Order.{Order}
 use Rattle.giop_cdr.specs.declared.order.Order.TheVariants.{Big, Little}
-use Rattle.giop_types.specs.declared.json.interface.Interface.{Interface}
+use Rattle.giop_types.specs.declared.interfaces.interface.Interface.{Interface}
 use Rattle.giop_msg.specs.Header.{fault_of, ulong_octets}
 use Rattle.giop_msg.specs.Locate.{AnyLocateRequest}
 use Rattle.giop_msg.specs.Msg.{head_of}

@@ -2,7 +2,7 @@
 use Rattle.std.proofs.Common.{◌≡◌, ℕ, Bool, if◌then◌else◌, [], ◌∷◌, length, Option, Some, refl, subst, inr, arith}
 use Rattle.giop_cdr.specs.Ending.{ended}
 use Rattle.giop_cdr.specs.declared.order.Order.{Order}
-use Rattle.giop_types.specs.declared.json.interface.Interface.{Interface}
+use Rattle.giop_types.specs.declared.interfaces.interface.Interface.{Interface}
 use Rattle.giop_msg.specs.Cut.{IsCut}
 use Rattle.giop_msg.specs.Locate.{AnyLocateRequest, locate_request}
 use Rattle.giop_msg.specs.Messages.LocateReply.{locate_reply}

@@ -1,6 +1,6 @@
 -- What a message does to a call at a client, and what Fragments leave of it behind a cancel.
 use Rattle.std.proofs.Common.{◌≡◌, Bool, true, false, not, if◌then◌else◌, List, [], ◌∷◌, map, Option, Some, None, IsOk, refl, sym, ap, subst, ◌∙◌}
-use Rattle.giop_types.specs.declared.json.interface.Interface.{Interface}
+use Rattle.giop_types.specs.declared.interfaces.interface.Interface.{Interface}
 use Rattle.giop_frag.specs.Gathered.{Pieces}
 use Rattle.giop_ids.specs.Runs.{left}
 use Rattle.giop_msg.specs.declared.kind.Kind.TheVariants as message

@@ -1,6 +1,6 @@
 -- What an item leaves of a call at a client.
 use Rattle.std.proofs.Common.{◌≡◌, true, false, if◌then◌else◌, sym, ap, subst, ◌∙◌}
-use Rattle.giop_types.specs.declared.json.interface.Interface.{Interface}
+use Rattle.giop_types.specs.declared.interfaces.interface.Interface.{Interface}
 use Rattle.giop_msg.specs.Cut.{joined}
 use Rattle.giop_mux.specs.Runs.{Happening}
 use Rattle.giop_mux.specs.Runs.{Hears as IsTold, IsTaken as TakesOut}

@@ -3,7 +3,7 @@ use Rattle.std.proofs.Common.{◌≡◌, ℕ, Bool, true, false, cond, if◌then
 use Rattle.std.specs.List.{flat_map}
 use Rattle.giop_cdr.specs.declared.order.Order.{Order}
 use Rattle.giop_cdr.specs.declared.order.Order.TheVariants.{Big, Little}
-use Rattle.giop_types.specs.declared.json.interface.Interface.{Interface}
+use Rattle.giop_types.specs.declared.interfaces.interface.Interface.{Interface}
 use Rattle.giop_frag.specs.Gathered.{Pieces}
 use Rattle.giop_ids.specs.Runs.{left}
 use Rattle.giop_msg.specs.declared.kind.Kind.TheVariants as message

@@ -6,7 +6,7 @@ use Rattle.std.specs.Option.{option_or}
 use Rattle.giop_cdr.specs.Ending.{ended, leads, made_of, remainder}
 use Rattle.giop_cdr.specs.Layout.{field, gives, such, number}
 use Rattle.giop_cdr.specs.declared.order.Order.{Order}
-use Rattle.giop_types.specs.declared.json.interface.Interface.{Interface}
+use Rattle.giop_types.specs.declared.interfaces.interface.Interface.{Interface}
 use Rattle.giop_msg.specs.Cut.{CanCut, IsCut, is_continued}
 use Rattle.giop_msg.specs.Joined.{AreWhole}
 use Rattle.giop_msg.specs.Locate.{AnyLocateRequest, locate_reply_head, locate_request, locate_status}

@@ -1,6 +1,6 @@
 -- What an end hears is an act of the lane of its id, as the laws of both ends say it.
 use Rattle.std.proofs.Common.{◌≡◌, ◌≢◌, ◌⊎◌, ℕ, ◌∷◌, List, Some, Result, Ok, Err, refl, inl, inr}
-use Rattle.giop_types.specs.declared.json.interface.Interface.{Interface}
+use Rattle.giop_types.specs.declared.interfaces.interface.Interface.{Interface}
 use Rattle.giop_msg.specs.declared.msg.Msg.{Msg}
 use Rattle.giop_calls.specs.Lane.{IsSound, Lane, Message, ToClient, ToServer, step}
 use Rattle.giop_calls.specs.declared.client.entry.ClientEntry.{ClientEntry}

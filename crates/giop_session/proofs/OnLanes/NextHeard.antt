@@ -2,7 +2,7 @@
 use Rattle.std.proofs.Common.{◌≡◌, ◌≢◌, ℕ, ◌+◌, ◌<◌, length, Some, Result, Ok, Err}
 use Rattle.std.specs.FinMap as finite
 use Rattle.giop_frag.specs.Gathered.{total_of}
-use Rattle.giop_types.specs.declared.json.interface.Interface.{Interface}
+use Rattle.giop_types.specs.declared.interfaces.interface.Interface.{Interface}
 use Rattle.giop_msg.specs.declared.msg.Msg.{Msg}
 use Rattle.giop_calls.specs.Lane.{Lane, ToClient, ToServer, step}
 use Rattle.giop_calls.specs.declared.client.entry.ClientEntry.{ClientEntry}

@@ -1,6 +1,6 @@
 -- What holds of a run of a server's end.
 use Rattle.std.proofs.Common.{◌≡◌, ℕ, Bool, Option, Some, None, refl, sym, ap, subst, ◌∙◌}
-use Rattle.giop_types.specs.declared.json.interface.Interface.{Interface}
+use Rattle.giop_types.specs.declared.interfaces.interface.Interface.{Interface}
 use Rattle.giop_cdr.specs.declared.order.Order.{Order}
 use Rattle.giop_msg.specs.declared.kind.Kind.TheVariants as message
 use Rattle.giop_msg.specs.declared.messages.reply.Reply.{Reply}

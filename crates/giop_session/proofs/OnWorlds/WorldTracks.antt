@@ -5,7 +5,7 @@ use Rattle.std.proofs.lemmas.Grind.{flat_map-append}
 use Rattle.std.proofs.lemmas.List.Elements.{All-append}
 use Rattle.std.specs.List.{All, AllByRecursion, flat_map}
 use Rattle.giop_ids.proofs.Puts.{eq_itself, get-put_other}
-use Rattle.giop_types.specs.declared.json.interface.Interface.{Interface}
+use Rattle.giop_types.specs.declared.interfaces.interface.Interface.{Interface}
 use Rattle.giop_msg.specs.Msg.{message_octets}
 use Rattle.giop_msg.specs.Stream.{Unread}
 use Rattle.giop_msg.specs.declared.msg.Msg.{Msg}

@@ -8,7 +8,7 @@ use Rattle.giop_calls.specs.declared.server.event.ServerEvent.TheVariants as ser
 use Rattle.giop_table.specs.declared.plan.Plan.{Plan}
 use Rattle.giop_table.specs.declared.plan.Plan.TheVariants.{Put, Next}
 use Rattle.giop_table.specs.declared.slot.Slot.{Slot}
-use Rattle.giop_types.specs.declared.json.interface.Interface.{Interface}
+use Rattle.giop_types.specs.declared.interfaces.interface.Interface.{Interface}
 use Rattle.giop_calls.specs.declared.client.entry.ClientEntry.{ClientEntry}
 use Rattle.giop_calls.specs.declared.client.rule.ClientRule.{ClientRule}
 use Rattle.giop_calls.specs.declared.server.entry.ServerEntry.{ServerEntry}

@@ -2,7 +2,7 @@
 -- 3.3 Part 2, 9.4.2, 9.4.3, 9.4.5, 9.4.6 and 9.4.9).
 use Rattle.std.specs.Prelude.{◌≡◌, ℕ, Bool, false, if◌then◌else◌, List, [], ◌∷◌, Option, Some, None, true}
 use Rattle.giop_cdr.specs.declared.order.Order.{Order}
-use Rattle.giop_types.specs.declared.json.interface.Interface.{Interface}
+use Rattle.giop_types.specs.declared.interfaces.interface.Interface.{Interface}
 use Rattle.giop_msg.specs.Locate.{AnyLocateRequest}
 use Rattle.giop_msg.specs.declared.messages.locate_reply.LocateReply.{LocateReply}
 use Rattle.giop_msg.specs.declared.messages.reply.Reply.{Reply}

@@ -1,7 +1,7 @@
 -- How an end hears what comes as `coding` reads it, piece by piece (CORBA 3.3 Part 2, 9.4.1 and
 -- 9.4.9).
 use Rattle.std.specs.Prelude.{◌≡◌, List, [], ◌∷◌, ◌++◌, Some, true}
-use Rattle.giop_types.specs.declared.json.interface.Interface.{Interface}
+use Rattle.giop_types.specs.declared.interfaces.interface.Interface.{Interface}
 use Rattle.giop_msg.specs.declared.kind.Kind.TheVariants.{Fragment}
 use Rattle.giop_msg.specs.declared.msg.Msg.{Msg}
 use Rattle.giop_calls.specs.Lane.{Cut, Standing, client_event, pieces_of, server_event}

@@ -3,7 +3,7 @@
 use Rattle.std.specs.Prelude.{◌≡◌, ◌≢◌, ◌∷◌, ℕ, List, map, Option, Some, None, Ok, Err}
 use Rattle.std.specs.List.{AllByRecursion}
 use Rattle.giop_msg.specs.declared.msg.Msg.{Msg}
-use Rattle.giop_types.specs.declared.json.interface.Interface.{Interface}
+use Rattle.giop_types.specs.declared.interfaces.interface.Interface.{Interface}
 use Rattle.giop_calls.specs.Lane.{Act, Cut, Lane, Message, Runs, ToClient, ToServer, new, pieces_of, step}
 use Rattle.giop_calls.specs.declared.client.call.Call.{Call as Asked}
 use Rattle.giop_calls.specs.declared.client.entry.ClientEntry.{ClientEntry}

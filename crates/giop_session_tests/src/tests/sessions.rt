@@ -1,7 +1,8 @@
 //! The interface of the tests, and the table of an end as text.
 use giop_calls::{ClientEntry, ServerEntry};
+use giop_json::{FormFault, interface_from_json};
 use giop_session::{ClientEnd, ServerEnd};
-use giop_types::{FormFault, Interface};
+use giop_types::Interface;
 use std::alloc::Global;
 use std::fmt::Write;
 use std::test::Fail;
@@ -10,7 +11,7 @@ const J: &[u8] =
     b"{\"operations\":{\"ping\":{},\"add\":{\"ins\":[[\"a\",\"long\"],[\"b\",\"long\"]],\"outs\":[[\"sum\",\"long\"]]}}}";
 
 pub fn interface(alloc: Global) -> Result<Interface, FormFault> {
-    Interface::from_json(alloc, J)
+    interface_from_json(alloc, J)
 }
 
 fn server_name(entry: &ServerEntry) -> &'static str {

@@ -5,7 +5,7 @@ use Rattle.giop_cdr.specs.declared.fault.CdrFault.{CdrFault}
 use Rattle.giop_cdr.specs.Layout.{text}
 use Rattle.giop_cdr.specs.Reading.Cursor.{Cursor}
 use Rattle.giop_cdr.specs.Reading.Values.{Reading}
-use Rattle.giop_types.specs.declared.json.interface.Interface.{Interface}
+use Rattle.giop_types.specs.declared.interfaces.interface.Interface.{Interface}
 use Rattle.giop_msg.specs.declared.kind.Kind.{Kind}
 use Rattle.giop_msg.specs.declared.kind.Kind.TheVariants as kind
 use Rattle.giop_msg.specs.declared.locate_reply_head.LocateReplyHead.{LocateReplyHead}

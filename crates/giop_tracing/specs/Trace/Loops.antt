@@ -9,7 +9,7 @@ use Rattle.giop_msg.specs.declared.msg.Msg.{Msg}
 use Rattle.giop_trace.specs.declared.direction.Direction.{Direction}
 use Rattle.giop_trace.specs.declared.flow.Flow.{Flow}
 use Rattle.giop_trace.specs.Observing.{heard}
-use Rattle.giop_types.specs.declared.json.interface.Interface.{Interface}
+use Rattle.giop_types.specs.declared.interfaces.interface.Interface.{Interface}
 use Rattle.giop_forms.specs.declared.line_form.LineForm.{LineForm}
 use Rattle.giop_tracing.specs.declared.trace.Heard.{Heard}
 use Rattle.giop_tracing.specs.declared.trace.Tracing.{Tracing}

@@ -11,10 +11,10 @@ use Rattle.giop_trace.specs.declared.direction.Direction.TheVariants.{Client, Se
 use Rattle.giop_trace.specs.declared.flow.Flow.{Flow}
 use Rattle.giop_trace.specs.declared.heard.Heard.{Heard as Told}
 use Rattle.giop_trace.specs.Observing.{heard as heard_of, is_early, left}
-use Rattle.giop_types.specs.declared.json.form_fault.FormFault.{FormFault}
-use Rattle.giop_types.specs.declared.json.interface.Interface.{Interface}
-use Rattle.giop_types.specs.JsonForms.DescFromJson.{json_in}
-use Rattle.giop_types.specs.JsonForms.InterfaceFromJson.{interface_told, interface_view}
+use Rattle.giop_json.specs.declared.form_fault.FormFault.{FormFault}
+use Rattle.giop_types.specs.declared.interfaces.interface.Interface.{Interface}
+use Rattle.giop_json.specs.DescFromJson.{json_in}
+use Rattle.giop_json.specs.InterfaceFromJson.{interface_told, interface_view}
 use Rattle.giop_lines.specs.declared.refusal.RefusalLine.TheVariants.{Form}
 use Rattle.giop_forms.specs.declared.line_form.LineForm.{LineForm}
 use Rattle.giop_show.specs.declared.status.Status.{Status}

@@ -8,11 +8,12 @@ use crate::trace::answered::Answered;
 use crate::trace::message_part::write_message;
 use giop_call_lines::{CompletionText, ReplyText};
 use giop_cdr::{CdrFault, OctetList};
+use giop_json::NumberForm;
 use giop_lines::{CdrFaultText, EscapedText, HexText, MinorText};
 use giop_msg::{Completion, Msg, ReplyBody, Request};
 use giop_show::bodies::brought_by;
 use giop_show::failure::Failure;
-use giop_types::{Interface, NumberForm};
+use giop_types::Interface;
 use std::alloc::Global;
 use std::io::Write;
 

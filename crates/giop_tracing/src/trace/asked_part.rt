@@ -6,12 +6,13 @@ ghost use Rattle.giop_tracing.specs.Trace.Lines.{asked_text, request_text, unask
 
 use crate::trace::asked::{Asked, is_answer};
 use crate::trace::message_part::write_message;
+use giop_json::NumberForm;
 use giop_lines::{EscapedText, HexText, OwnTargetText, RequestFaultText};
 use giop_msg::{Msg, Request, RequestFault};
 use giop_show::bodies::request_ins;
 use giop_show::failure::Failure;
 use giop_trace::Flow;
-use giop_types::{Interface, NumberForm};
+use giop_types::Interface;
 use std::alloc::Global;
 use std::io::Write;
 

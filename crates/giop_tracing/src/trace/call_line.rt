@@ -14,11 +14,12 @@ use crate::trace::asked_part::write_asked;
 use crate::trace::json::write_call_json;
 use crate::trace::usual_line::usual_line;
 use giop_forms::LineForm;
+use giop_json::NumberForm;
 use giop_lines::IdText;
 use giop_msg::{Msg, Request};
 use giop_show::failure::Failure;
 use giop_trace::Flow;
-use giop_types::{Interface, NumberForm};
+use giop_types::Interface;
 use std::alloc::Global;
 use std::io::Write;
 

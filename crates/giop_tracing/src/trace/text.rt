@@ -7,11 +7,11 @@ ghost use Rattle.giop_tracing.specs.Trace.Text.{TracesText};
 
 use crate::trace::{Heard, trace_stream};
 use giop_forms::LineForm;
+use giop_json::interface_from_json;
 use giop_show::failure::Failure;
 use giop_show::form::refuse_in;
 use giop_show::form_refusal;
 use giop_show::status::Status;
-use giop_types::Interface;
 use std::alloc::Global;
 use std::io::{Read, Write};
 
@@ -38,7 +38,7 @@ pub fn trace_text<C: Read, S: Read, W: Write>(
         (W.contents writer.old) (W.contents writer.new)) }
     ensures judged { IfOk result IsJudged }
 {
-    match Interface::from_json(alloc, interface) {
+    match interface_from_json(alloc, interface) {
         Ok(interface) => trace_stream(
             alloc, &interface, limit, form, heard, client, server, writer,
         ),

@@ -8,10 +8,11 @@ ghost use Rattle.giop_show.specs.Forms.{ended};
 ghost use Rattle.giop_tracing.specs.Trace.Lines.{both_lists, call_text, reply_line, request_result, result_text};
 
 use giop_cdr::SliceOctets;
+use giop_json::{NumberForm, append_values};
 use giop_lines::{append_escaped, append_id, append_target};
 use giop_msg::{Kind, Msg, Reply, ReplyBody, Request};
 use giop_trace::Flow;
-use giop_types::{Interface, NumberForm, Parameter, Value, append_values};
+use giop_types::{Interface, Parameter, Value};
 use std::alloc::{AllocError, Global};
 
 // The most octets of a message that are decoded.

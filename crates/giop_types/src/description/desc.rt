@@ -1,5 +1,6 @@
 //! The description of an IDL type (CORBA 3.3 Part 2, 9.3). A new variant takes one in value.rt, and
-//! a case wherever check.rt, same.rt, codec/, json/ and the definitions of specs/ go by variants.
+//! a case wherever check.rt, same.rt, codec/, the definitions of specs/ and giop_json go by
+//! variants.
 use giop_cdr::OctetList;
 
 /// What a value looks like on the wire: a type of IDL, without its name (CORBA 3.3 Part 2, 9.3).

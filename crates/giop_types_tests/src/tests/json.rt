@@ -1,10 +1,11 @@
 //! Each call on JSON forms once. Values of each form, and each refusal, are cases of the built
 //! program (tests/cases/values, descriptions, nesting).
 use giop_cdr::{CdrOut, Order};
-use giop_types::{
-    FormFault, NumberForm, Value, desc_from_json, encode, reference_desc, value_from_json,
-    value_to_json, value_to_json_in,
+use giop_json::{
+    FormFault, NumberForm, desc_from_json, reference_desc, value_from_json, value_to_json,
+    value_to_json_in,
 };
+use giop_types::{Value, encode};
 use serde_json::Value as Json;
 use std::alloc::Global;
 use std::test::Fail;

@@ -1,7 +1,8 @@
 //! Refused allocations: a value that is out of memory is left unread and unwritten, and faults are
 //! still reported.
 use giop_cdr::{CdrFault, CdrIn, CdrKind, CdrOut, EncodeFault, Order, SliceOctets};
-use giop_types::{CheckedDesc, FormFault, Value, decode, desc_from_json, encode};
+use giop_json::{FormFault, desc_from_json};
+use giop_types::{CheckedDesc, Value, decode, encode};
 use std::alloc::Global;
 use std::test::Fail;
 

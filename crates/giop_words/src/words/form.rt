@@ -4,7 +4,7 @@
 use crate::words::row::{Needed, Place, Row, Takes};
 use clap::ArgMatches;
 use giop_forms::LineForm;
-use giop_types::NumberForm;
+use giop_json::NumberForm;
 
 /// The option of a command that may write lines of JSON.
 pub(crate) const JSON: Row = Row {

@@ -21,6 +21,7 @@ use giop_commands::{Ending, Endpoint};
 use giop_files::files::OUTPUT_BUFFER;
 use giop_files::files::interfaces::{NOTHING, Offered, interface_of_each, own_of, read_each};
 use giop_files::report;
+use giop_json::interface_from_json;
 use giop_show::failure::Failure;
 use giop_show::status::Status;
 use giop_types::Interface;
@@ -103,7 +104,7 @@ fn object_of<'b>(
         Some(one) => one.text.as_slice(),
         None => NOTHING,
     };
-    match Interface::from_json(rt.alloc(), text) {
+    match interface_from_json(rt.alloc(), text) {
         Ok(interface) => Ok((interface, text)),
         Err(_) => Err(report::status_of(rt, "--interface", Err(Failure::Memory))),
     }

@@ -6,6 +6,7 @@ use giop_calling::Calling;
 use giop_cdr::Order;
 use giop_commands::Endpoint;
 use giop_end::{Form, Limits};
+use giop_json::interface_from_json;
 use giop_show::failure::Failure;
 use giop_types::Interface;
 use giop_words::ObjectWords;
@@ -20,7 +21,7 @@ const OFFERED: &[u8] =
 
 /// What each object offers: the operation by which it is asked whether it is there.
 pub(super) fn object_interface(alloc: Global) -> Result<Interface, Failure> {
-    match Interface::from_json(alloc, OFFERED) {
+    match interface_from_json(alloc, OFFERED) {
         Ok(interface) => Ok(interface),
         Err(_) => Err(Failure::Memory),
     }

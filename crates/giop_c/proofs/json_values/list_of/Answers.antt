@@ -6,11 +6,11 @@ use Rattle.serde_json.specs.Data.{array}
 use Rattle.serde_json.specs.View.{items_of, view}
 use Rattle.serde_json.specs.declared.value.Value.{Value as Json}
 use Rattle.serde_json.proofs.Views.{view-Array}
-use Rattle.giop_types.specs.declared.json.form_fault.FormFault.{FormFault}
-use Rattle.giop_types.specs.declared.json.form_fault.FormFault.TheVariants.{NoMemory, Unfit}
+use Rattle.giop_json.specs.declared.form_fault.FormFault.{FormFault}
+use Rattle.giop_json.specs.declared.form_fault.FormFault.TheVariants.{NoMemory, Unfit}
 use Rattle.giop_types.specs.Descriptions.CheckedShape.{checked_shape}
-use Rattle.giop_types.specs.declared.json.number_form.NumberForm.TheVariants.{Plain}
-use Rattle.giop_types.specs.JsonForms.ToJson.{to_data}
+use Rattle.giop_json.specs.declared.number_form.NumberForm.TheVariants.{Plain}
+use Rattle.giop_json.specs.ToJson.{to_data}
 use Rattle.giop_types.specs.Values.Fits.{fields_fit, fits}
 use Rattle.giop_types.specs.Values.Views.{value_view}
 use Rattle.giop_msg.specs.Messages.Body.{fields_in}

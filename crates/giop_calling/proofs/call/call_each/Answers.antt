@@ -1,6 +1,6 @@
 use Rattle.std.proofs.Common.{◌≡◌, ◌∷◌, length, refl, sym, ap, ◌∙◌, rules, arith}
 use Rattle.std.specs.Vec.Iter.{into_iter_items, into_iter_len}
-use Rattle.giop_types.proofs.JsonForms.InterfaceLemmas.{nothing_left}
+use Rattle.giop_json.proofs.InterfaceLemmas.{nothing_left}
 use Rattle.giop_commands.specs.Session.Acts.{outbox}
 use Rattle.giop_calling.specs.Call.Calling.{CallsOne, asked_of}
 use Rattle.giop_commands.proofs.OnSession.ActLemmas.{others_on, same_fault, same_interface, same_limits}

@@ -1,7 +1,7 @@
 use Rattle.std.proofs.Common.{◌≡◌, Result, Ok, Err, ◌∙◌, sym, ap, subst, inl, inr}
 use Rattle.std.specs.Io.KnownBytes.{Appends}
-use Rattle.giop_types.specs.declared.json.form_fault.FormFault.{FormFault}
-use Rattle.giop_types.specs.JsonForms.InterfaceFromJson.{Offer, interface_view}
+use Rattle.giop_json.specs.declared.form_fault.FormFault.{FormFault}
+use Rattle.giop_json.specs.InterfaceFromJson.{Offer, interface_view}
 use Rattle.giop_lines.specs.declared.refusal.RefusalLine.TheVariants.{Form}
 use Rattle.giop_show.specs.Forms.{ended, refused_in}
 use Rattle.giop_commands.proofs.laws.texts_are_interfaces_or_refused.Goals as goal

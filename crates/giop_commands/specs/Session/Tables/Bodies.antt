@@ -1,7 +1,7 @@
 -- What the bodies hold that stand in an entry of a table, as text.
 use Rattle.std.specs.Prelude.{ℕ, List, []}
-use Rattle.giop_types.specs.declared.json.interface.Interface.{Interface}
-use Rattle.giop_types.specs.declared.json.number_form.NumberForm.{NumberForm}
+use Rattle.giop_types.specs.declared.interfaces.interface.Interface.{Interface}
+use Rattle.giop_json.specs.declared.number_form.NumberForm.{NumberForm}
 use Rattle.giop_calls.specs.declared.server.entry.ServerEntry.{ServerEntry}
 use Rattle.giop_calls.specs.declared.server.entry.ServerEntry.TheVariants as server
 use Rattle.giop_calls.specs.declared.client.entry.ClientEntry.{ClientEntry}

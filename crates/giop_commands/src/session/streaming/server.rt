@@ -12,10 +12,11 @@ use crate::session::table::shown::{AnsweredObject, AnsweredShownLine, question_s
 use giop_call_lines::{AnsweredJson, AnsweredLine};
 use giop_calls::{Question, ServerEntry, ServerRule};
 use giop_forms::LineForm;
+use giop_json::NumberForm;
 use giop_msg::ReplyBody;
 use giop_show::bodies::{brought_by, request_ins};
 use giop_show::form::line_text;
-use giop_types::{Interface, NumberForm};
+use giop_types::Interface;
 use std::alloc::{AllocError, Global};
 
 impl Streamed for ServerRule {

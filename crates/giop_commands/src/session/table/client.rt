@@ -8,9 +8,10 @@ use crate::session::table::Tabled;
 use giop_call_lines::{ClientEntryJson, ClientEntryLine};
 use giop_calls::{ClientEntry, ClientRule};
 use giop_forms::LineForm;
+use giop_json::NumberForm;
 use giop_show::bodies::brought_by;
 use giop_show::form::line_text;
-use giop_types::{Interface, NumberForm};
+use giop_types::Interface;
 use std::alloc::{AllocError, Global};
 
 impl Tabled for ClientRule {

@@ -9,9 +9,10 @@ use crate::session::table::shown::{EntryObject, EntryShownLine, entry_shown};
 use giop_call_lines::ServerEntryLine;
 use giop_calls::{ServerEntry, ServerRule};
 use giop_forms::LineForm;
+use giop_json::NumberForm;
 use giop_show::bodies::request_ins;
 use giop_show::form::line_text;
-use giop_types::{Interface, NumberForm};
+use giop_types::Interface;
 use std::alloc::{AllocError, Global};
 
 impl Tabled for ServerRule {

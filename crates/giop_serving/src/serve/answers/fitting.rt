@@ -3,14 +3,15 @@
 ghost use Rattle.std.specs.Prelude.{◌≡◌, ◌&&◌, codes};
 ghost use Rattle.serde_json.specs.Find.{as_array, get};
 ghost use Rattle.serde_json.specs.View.{items_view, view};
-ghost use Rattle.giop_types.specs.JsonForms.FromJson.{Shows};
+ghost use Rattle.giop_json.specs.FromJson.{Shows};
 ghost use Rattle.giop_serving.specs.Serve.AnswerFiles.{are_fit, default_formed, each_fits, fits_outs, is_fit, list_fits, member_fits};
 
 use crate::serve::answers::let_out::is_let_out;
 use crate::serve::answers::reading::given_of;
 use crate::serve::answers::text_of;
 use crate::serve::given::Sending;
-use giop_types::{FormFault, Interface, Operation};
+use giop_json::FormFault;
+use giop_types::{Interface, Operation};
 use serde_json::Value as Json;
 use std::alloc::Global;
 

@@ -4,8 +4,8 @@ ghost use Rattle.std.specs.Prelude.{◌≡◌, codes, Some};
 ghost use Rattle.serde_json.specs.Find.{get};
 ghost use Rattle.serde_json.specs.View.{view};
 ghost use Rattle.giop_ior.specs.Ior.{ior_layout};
-ghost use Rattle.giop_types.specs.IorText.{ior_text_of};
-ghost use Rattle.giop_types.specs.JsonForms.FromJson.{Shows};
+ghost use Rattle.giop_ior_text.specs.IorText.{ior_text_of};
+ghost use Rattle.giop_json.specs.FromJson.{Shows};
 ghost use Rattle.giop_serving.specs.Serve.GeneralForms.{completion_in, completion_numbered, corbaloc_reference, forward_in, forward_perm_in, general_by, minor_in, reference_in, reference_said, system_in, system_members};
 
 use crate::serve::answers::AnswerGiven;
@@ -13,8 +13,8 @@ use giop_cdr::EncodeFault;
 use giop_commands::session::json::{is_object_of, octets_of, ulong_of};
 use giop_commands::session::target::is_reference;
 use giop_ior::{Corbaloc, CorbalocKind, Ior, IorTextFault, corbaloc_from_text, ior_from_text};
+use giop_json::FormFault;
 use giop_msg::Completion;
-use giop_types::FormFault;
 use serde_json::Value as Json;
 use std::alloc::Global;
 

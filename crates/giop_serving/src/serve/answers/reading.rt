@@ -2,7 +2,7 @@
 //! specs/Serve/AnswerForms.antt: change both.
 ghost use Rattle.std.specs.Prelude.{Some};
 ghost use Rattle.serde_json.specs.View.{view};
-ghost use Rattle.giop_types.specs.JsonForms.FromJson.{Shows};
+ghost use Rattle.giop_json.specs.FromJson.{Shows};
 ghost use Rattle.giop_serving.specs.Serve.AnswerForms.{given_by, given_under, raised, raised_in, result_in};
 
 use crate::serve::answers::general::general_of;
@@ -11,7 +11,8 @@ use crate::serve::in_turn::due_in;
 use crate::serve::is_a::is_a_of;
 use giop_cdr::OctetList;
 use giop_commands::session::json::{is_object_of, octets_of, values_of};
-use giop_types::{FormFault, Offer, Operation, Parameter, Parameters};
+use giop_json::FormFault;
+use giop_types::{Offer, Operation, Parameter, Parameters};
 use serde_json::Value as Json;
 use std::alloc::Global;
 

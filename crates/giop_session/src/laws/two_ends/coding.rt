@@ -1,7 +1,7 @@
 //! The session's own ends over one lane: what they send is read back, and so they agree. Each
 //! function's contract is a law, and no program calls these.
 ghost use Rattle.std.specs.Prelude.{◌≡◌, ◌++◌, ◌∷◌, [], false, true, map, Some};
-ghost use Rattle.giop_types.specs.declared.json.interface.Interface.{Interface};
+ghost use Rattle.giop_types.specs.declared.interfaces.interface.Interface.{Interface};
 ghost use Rattle.giop_msg.specs.declared.msg.Msg.{Msg};
 ghost use Rattle.giop_calls.specs.Lane.{Cut, CutsCall, CutsLocated, CutsReply, IsSound, Runs};
 ghost use Rattle.giop_calls.specs.Lane.{kind_of, new, Opens, pieces_of, version_of};

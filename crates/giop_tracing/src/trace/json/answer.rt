@@ -8,11 +8,12 @@ use crate::trace::answered::Answered;
 use crate::trace::json::{write_message, write_null};
 use giop_call_lines::OutcomeJson;
 use giop_cdr::{CdrFault, OctetList};
+use giop_json::NumberForm;
 use giop_lines::{CdrFaultJson, HexJson, TextJson};
 use giop_msg::{Msg, ReplyBody, Request};
 use giop_show::bodies::brought_by;
 use giop_show::failure::Failure;
-use giop_types::{Interface, NumberForm};
+use giop_types::Interface;
 use std::alloc::Global;
 use std::io::Write;
 

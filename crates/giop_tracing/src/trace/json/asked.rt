@@ -6,12 +6,13 @@ ghost use Rattle.giop_tracing.specs.Trace.Json.{asked_json, request_json, unaske
 
 use crate::trace::asked::{Asked, is_answer};
 use crate::trace::json::{write_message, write_null, write_what};
+use giop_json::NumberForm;
 use giop_lines::{HexJson, RequestFaultJson, TargetJson, TextJson};
 use giop_msg::{Msg, Request, RequestFault};
 use giop_show::bodies::request_ins;
 use giop_show::failure::Failure;
 use giop_trace::Flow;
-use giop_types::{Interface, NumberForm};
+use giop_types::Interface;
 use std::alloc::Global;
 use std::io::Write;
 

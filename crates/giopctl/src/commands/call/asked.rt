@@ -8,9 +8,9 @@ use giop_files::files::FileFront;
 use giop_files::files::interfaces::Offered;
 use giop_files::report::refusals::{refuse_form, refuse_words};
 use giop_files::{files, report};
+use giop_json::{FormFault, interface_from_json};
 use giop_show::failure::Failure;
 use giop_show::status::Status;
-use giop_types::{FormFault, Interface};
 use giop_words::{CallWords, Telling};
 use std::io::ErrorKind;
 
@@ -78,7 +78,7 @@ fn is_missing(failure: &Failure) -> bool {
 // Whether one of these texts is an interface that has an operation of this name.
 fn offers(rt: &HostRuntime, offered: &[Offered<'_>], name: &str) -> Result<bool, Failure> {
     for one in offered {
-        match Interface::from_json(rt.alloc(), one.text.as_slice()) {
+        match interface_from_json(rt.alloc(), one.text.as_slice()) {
             Ok(interface) if interface.operation(name.as_bytes()).is_some() => return Ok(true),
             Err(FormFault::NoMemory) => return Err(Failure::Memory),
             _ => {}

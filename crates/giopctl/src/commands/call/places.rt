@@ -3,7 +3,8 @@
 
 use giop_calling::call::calls::calls_from_json;
 use giop_files::places::parts::{arguments_place, key, leaf_place, whole};
-use giop_types::{FormFault, Interface, parse_json};
+use giop_json::{FormFault, interface_from_json, parse_json};
+use giop_types::Interface;
 use giop_where::{NoPlace, Place, Role, Step, fault_code};
 use serde_json::{Value as Json, json};
 use std::alloc::{AllocError, Global};
@@ -18,7 +19,7 @@ pub(super) fn of_calls(
     let (Ok(offered), Ok(calls)) = (parse_json(alloc, interface), parse_json(alloc, calls)) else {
         return None;
     };
-    let Ok(checked) = Interface::from_json(alloc, interface) else {
+    let Ok(checked) = interface_from_json(alloc, interface) else {
         return None;
     };
     match calls_place(alloc, &checked, &offered, &calls, fault_code(fault)) {
@@ -38,7 +39,7 @@ pub(super) fn of_call(
     let (Ok(offered), Ok(call)) = (parse_json(alloc, interface), parse_json(alloc, call)) else {
         return None;
     };
-    let Ok(checked) = Interface::from_json(alloc, interface) else {
+    let Ok(checked) = interface_from_json(alloc, interface) else {
         return None;
     };
     match call_place(alloc, &checked, &offered, &call, fault_code(fault)) {
@@ -60,7 +61,7 @@ pub(super) fn of_words(
     else {
         return None;
     };
-    let Ok(checked) = Interface::from_json(alloc, interface) else {
+    let Ok(checked) = interface_from_json(alloc, interface) else {
         return None;
     };
     match call_place(alloc, &checked, &offered, &call, fault_code(fault)) {

@@ -2,7 +2,7 @@
 //! type, and `_non_existent`, by false. They are added to the files of an interface and of answers
 //! that haven't them.
 
-use giop_types::{FormFault, parse_json};
+use giop_json::{FormFault, parse_json};
 use serde_json::{Map, Value as Json, json};
 use std::alloc::{AllocError, Global};
 

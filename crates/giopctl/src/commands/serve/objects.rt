@@ -11,12 +11,13 @@ use giop_files::files::read_or_report;
 use giop_files::report;
 use giop_files::report::refusals::{refuse_form, refuse_unsent};
 use giop_files::report::texts;
+use giop_json::{FormFault, interface_from_json};
 use giop_names::interface_id;
 use giop_serving::serve::answers::{Answers, answers_from_json};
 use giop_serving::serve::given::Sending;
 use giop_show::failure::Failure;
 use giop_show::status::{Limit, Status};
-use giop_types::{FormFault, Interface};
+use giop_types::Interface;
 use giop_words::{FileWord, ServeWords};
 use std::alloc::{AllocError, Global};
 
@@ -185,7 +186,7 @@ fn object_of(
         given.text.as_slice(),
     );
     let texts = or_memory(rt, texts)?;
-    let Ok(interface) = Interface::from_json(rt.alloc(), texts.interface.as_slice()) else {
+    let Ok(interface) = interface_from_json(rt.alloc(), texts.interface.as_slice()) else {
         return Err(out_of_memory(rt));
     };
     let answers = answers_of(rt, asked.words, &interface, &texts, given)?;

@@ -3,9 +3,10 @@
 
 use giop_end::Limits;
 use giop_files::places::parts::{arguments_place, key, leaf_place, whole};
+use giop_json::{FormFault, interface_from_json, parse_json};
 use giop_serving::serve::answers::answers_from_json;
 use giop_serving::serve::given::Sending;
-use giop_types::{FormFault, Interface, parse_json};
+use giop_types::Interface;
 use giop_where::{NoPlace, Part, Place, Role, Step, fault_code};
 use serde_json::{Value as Json, json};
 use std::alloc::{AllocError, Global};
@@ -188,7 +189,7 @@ fn answer_refusal(
 ) -> Result<u8, AllocError> {
     let interface = alone(alloc, offered, name, operation)?;
     let text = json!(in alloc; {(name): answer})?.to_string(alloc)?;
-    match Interface::from_json(alloc, interface.as_bytes()) {
+    match interface_from_json(alloc, interface.as_bytes()) {
         Ok(interface) => refusal(alloc, &interface, sending, text.as_bytes()),
         Err(FormFault::NoMemory) => Err(AllocError),
         Err(_) => Ok(0),

@@ -4,7 +4,7 @@ use Rattle.std.specs.FinMap.{len-empty, len-entries}
 use Rattle.std.specs.Fmt.{digits}
 use Rattle.std.specs.List.{flat_map}
 use Rattle.std.specs.Ordering.{nat_cmp}
-use Rattle.giop_types.specs.declared.json.interface.Interface.{Interface}
+use Rattle.giop_types.specs.declared.interfaces.interface.Interface.{Interface}
 use Rattle.giop_msg.specs.declared.msg.Msg.{Msg}
 use Rattle.giop_msg.specs.Stream.{Unread}
 use Rattle.giop_calls.specs.declared.server.entry.ServerEntry.{ServerEntry}

@@ -1,8 +1,8 @@
 use Rattle.std.proofs.Common.{[], false, Some, ◌∙◌, refl, ap, inr}
 use Rattle.std.specs.Fmt.{digits}
 use Rattle.std.specs.Str.{chars, is_utf8}
-use Rattle.giop_types.specs.declared.json.form_fault.FormFault.TheVariants.{BadJson}
-use Rattle.giop_types.specs.JsonForms.InterfaceFromJson.{interface_told}
+use Rattle.giop_json.specs.declared.form_fault.FormFault.TheVariants.{BadJson}
+use Rattle.giop_json.specs.InterfaceFromJson.{interface_told}
 use Rattle.giop_commands.specs.Check.{default_limits}
 use Rattle.laws_in_use.specs.Checked.{as_text, not_utf8}
 use Rattle.laws_in_use.specs.InJson.{adding}

@@ -5,7 +5,7 @@ use Rattle.std.specs.Int.{w16}
 use Rattle.giop_cdr.specs.Spelling.{SpellsNumber}
 use Rattle.giop_cdr.specs.declared.order.Order.TheVariants.{Big}
 use Rattle.giop_types.specs.Coding.Spells.{Spells}
-use Rattle.giop_types.specs.IorText.{OctetText, text_written}
+use Rattle.giop_ior_text.specs.IorText.{OctetText, text_written}
 use Rattle.giop_types.specs.Coding.Written.{value_out}
 use Rattle.giop_types.specs.Descriptions.Full.{is_full}
 use Rattle.giop_types.specs.Descriptions.Shape.{ushort}

@@ -4,10 +4,10 @@ use Rattle.giop_cdr.specs.declared.order.Order.TheVariants.{Big}
 use Rattle.giop_types.specs.Coding.Written.{fields_out, value_out}
 use Rattle.giop_types.specs.Descriptions.Checked.{desc_fault, fields_fault}
 use Rattle.giop_types.specs.Descriptions.Full.{are_full, is_full}
-use Rattle.giop_types.specs.JsonForms.Plain.{fields_plain, is_plain}
+use Rattle.giop_json.specs.Plain.{fields_plain, is_plain}
 use Rattle.giop_types.specs.Values.Fits.{fields_fit, fits}
-use Rattle.giop_types.specs.JsonForms.ToJson.{to_data}
-use Rattle.giop_types.specs.declared.json.number_form.NumberForm.TheVariants.{Quoted}
+use Rattle.giop_json.specs.ToJson.{to_data}
+use Rattle.giop_json.specs.declared.number_form.NumberForm.TheVariants.{Quoted}
 use Rattle.laws_in_use.specs.Described.{pair, value}
 use Rattle.laws_in_use.proofs.CdrSpelled.{again}
 use Rattle.laws_in_use.proofs.described.a_struct_at_one.Goals as goal

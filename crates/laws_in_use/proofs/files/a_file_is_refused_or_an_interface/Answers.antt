@@ -1,9 +1,9 @@
 use Rattle.std.proofs.Common.{◌≡◌, IsErr, Ok, Err, ap, subst, sym, ◌∙◌, refl}
 use Rattle.std.specs.Str.{chars, is_utf8}
-use Rattle.giop_types.specs.declared.json.form_fault.FormFault.{FormFault}
-use Rattle.giop_types.specs.declared.json.form_fault.FormFault.TheVariants.{BadJson}
-use Rattle.giop_types.specs.JsonForms.DescFromJson.{json_in}
-use Rattle.giop_types.specs.JsonForms.InterfaceFromJson.{interface_told}
+use Rattle.giop_json.specs.declared.form_fault.FormFault.{FormFault}
+use Rattle.giop_json.specs.declared.form_fault.FormFault.TheVariants.{BadJson}
+use Rattle.giop_json.specs.DescFromJson.{json_in}
+use Rattle.giop_json.specs.InterfaceFromJson.{interface_told}
 use Rattle.giop_files.specs.Files.{IsJoined}
 use Rattle.giop_files.specs.InterfaceText.{plain_text}
 use Rattle.laws_in_use.specs.Checked.{not_utf8}

@@ -1,7 +1,7 @@
 use Rattle.std.proofs.Common.{refl}
 use Rattle.giop_types.specs.Descriptions.Checked.{branches_fault, desc_fault, fields_fault}
-use Rattle.giop_types.specs.JsonForms.DescToJson.{branches_sayable, cases_data, default_data, desc_data, fields_sayable, is_sayable}
-use Rattle.giop_types.specs.JsonForms.Plain.{branches_plain, fields_plain, is_plain}
+use Rattle.giop_json.specs.DescToJson.{branches_sayable, cases_data, default_data, desc_data, fields_sayable, is_sayable}
+use Rattle.giop_json.specs.Plain.{branches_plain, fields_plain, is_plain}
 use Rattle.laws_in_use.specs.InJson.{coin}
 use Rattle.laws_in_use.proofs.in_json.a_union_in_json.Goals as goal
 

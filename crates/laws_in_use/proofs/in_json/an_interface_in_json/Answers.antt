@@ -1,7 +1,7 @@
 use Rattle.std.proofs.Common.{refl}
 use Rattle.giop_types.specs.Descriptions.Checked.{desc_fault}
-use Rattle.giop_types.specs.JsonForms.DescToJson.{desc_data, is_sayable, members_data}
-use Rattle.giop_types.specs.JsonForms.Plain.{is_plain}
+use Rattle.giop_json.specs.DescToJson.{desc_data, is_sayable, members_data}
+use Rattle.giop_json.specs.Plain.{is_plain}
 use Rattle.laws_in_use.specs.InJson.{adding}
 use Rattle.laws_in_use.proofs.in_json.an_interface_in_json.Goals as goal
 

@@ -2,7 +2,7 @@ use Rattle.std.proofs.Common.{◌≡◌, [], true, None, refl, inl, rules, arith
 use Rattle.giop_cdr.specs.Ending.{ended, from_multiple_of_8, leads, made_of}
 use Rattle.giop_cdr.specs.Layout.{chosen, field, gives, number, octets, sequence, such, tagged, text}
 use Rattle.giop_cdr.specs.declared.order.Order.TheVariants.{Big}
-use Rattle.giop_types.specs.declared.json.interface.Interface.{Interface}
+use Rattle.giop_types.specs.declared.interfaces.interface.Interface.{Interface}
 use Rattle.giop_ior.specs.ServiceContext.{service_context, service_contexts}
 use Rattle.giop_msg.specs.Messages.Body.{body_of}
 use Rattle.giop_msg.specs.Messages.Reply.{allowed, completion, reply, reply_body, system_exception}

@@ -2,7 +2,7 @@ use Rattle.std.proofs.Common.{codes, refl, inl}
 use Rattle.std.specs.Str.{chars}
 use Rattle.serde_json.specs.Data.{number, string, unsigned}
 use Rattle.giop_types.specs.Descriptions.Checked.{desc_fault}
-use Rattle.giop_types.specs.JsonForms.DescFromJson.{desc_in}
+use Rattle.giop_json.specs.DescFromJson.{desc_in}
 use Rattle.giop_where.specs.Parts.{key}
 use Rattle.laws_in_use.specs.Places.{bound, bounded, union}
 use Rattle.laws_in_use.proofs.places.a_discriminant_before_its_cases.Goals as goal

@@ -2,7 +2,7 @@ use Rattle.std.proofs.Common.{codes, refl, arith}
 use Rattle.std.specs.Str.{chars}
 use Rattle.serde_json.specs.Data.{string}
 use Rattle.giop_types.specs.Descriptions.Checked.{desc_fault}
-use Rattle.giop_types.specs.JsonForms.DescFromJson.{desc_in}
+use Rattle.giop_json.specs.DescFromJson.{desc_in}
 use Rattle.laws_in_use.specs.Places.{name, no_type, parameter}
 use Rattle.giop_where.specs.Parts.{index}
 use Rattle.laws_in_use.proofs.places.a_parameter_of_no_type.Goals as goal

@@ -1,7 +1,7 @@
 use Rattle.std.proofs.Common.{◌∙◌, List, refl, sym, subst}
 use Rattle.std.specs.Str.{chars}
 use Rattle.giop_types.specs.Descriptions.Checked.{desc_fault}
-use Rattle.giop_types.specs.JsonForms.DescFromJson.{desc_in}
+use Rattle.giop_json.specs.DescFromJson.{desc_in}
 use Rattle.giop_where.specs.First.{IsFirst}
 use Rattle.giop_where.specs.Parts.{Way}
 use Rattle.laws_in_use.specs.Places.{file, no_type, path}

@@ -2,7 +2,7 @@ use Rattle.std.proofs.Common.{◌≡◌, [], ◌∷◌, true, refl, ◌∙◌, r
 use Rattle.giop_cdr.specs.Layout.{field, gives, number, octets, sequence, tagged, text}
 use Rattle.giop_cdr.specs.Writing.Output.{items_out, number_out, octets_out, sequence_out, string_out}
 use Rattle.giop_cdr.specs.declared.order.Order.TheVariants.{Big}
-use Rattle.giop_types.specs.IorText.{text_written}
+use Rattle.giop_ior_text.specs.IorText.{text_written}
 use Rattle.giop_ior.specs.Ior.{ior_layout, tagged_profile}
 use Rattle.laws_in_use.specs.Referred.{reference, reference_octets}
 use Rattle.laws_in_use.proofs.CdrSpelled.{again, are_octets}

@@ -1,4 +1,4 @@
-use Rattle.giop_types.proofs.JsonForms.FromJsonLemmas.{object_counted}
+use Rattle.giop_json.proofs.FromJsonLemmas.{object_counted}
 use Rattle.giop_commands.proofs.session.json.is_object_of.Goals as goal
 
 pub returns-in-Some : goal.returns-in-Some

@@ -3,7 +3,7 @@ use Rattle.serde_json.specs.View.{view}
 use Rattle.serde_json.specs.Written.{has_float, compact_text}
 use Rattle.giop_types.specs.Descriptions.CheckedShape.{checked_shape}
 use Rattle.giop_types.specs.Values.Views.{value_view}
-use Rattle.giop_types.proofs.JsonForms.JsonFloatLemmas.{data_whole}
+use Rattle.giop_json.proofs.JsonFloatLemmas.{data_whole}
 use Rattle.giop_converting.proofs.convert.value.text_of_value.Goals as goal
 
 pub returns-in_ok-to_string-in-Ok : goal.returns-in_ok-to_string-in-Ok

@@ -1,4 +1,4 @@
-use Rattle.giop_types.proofs.IorTextLemmas.{one_text}
+use Rattle.giop_ior_text.proofs.IorTextLemmas.{one_text}
 use Rattle.giop_ior.specs.Ior.{ior_layout}
 use Rattle.giop_ior.proofs.IorLemmas.{ior_is}
 use Rattle.giop_ior.proofs.IorTextLemmas.{iors_read, text_fits}

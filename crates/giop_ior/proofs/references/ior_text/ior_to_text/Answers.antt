@@ -1,7 +1,7 @@
 use Rattle.std.proofs.Common.{ap, ◌∙◌}
 use Rattle.std.specs.Int.{w8}
 use Rattle.giop_cdr.specs.Writing.Output.{number_out}
-use Rattle.giop_types.specs.IorText.{prefixed}
+use Rattle.giop_ior_text.specs.IorText.{prefixed}
 use Rattle.giop_ior.proofs.IorTextLemmas.{appended_text_back, begins}
 use Rattle.giop_ior.proofs.references.ior_text.ior_to_text.Goals as goal
 

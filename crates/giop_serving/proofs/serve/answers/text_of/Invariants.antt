@@ -1,5 +1,5 @@
 use Rattle.std.proofs.Common.{◌≡◌, ◌++◌, string_bytes, drop}
-use Rattle.giop_types.specs.JsonForms.JsonText.{text_of}
+use Rattle.giop_json.specs.JsonText.{text_of}
 use Rattle.giop_serving.proofs.serve.answers.text_of.Given as goal
 
 abbrev pub invariant-loop-octet : goal.invariant-loop-octet

@@ -1,5 +1,5 @@
 use Rattle.std.proofs.Common.{subst}
-use Rattle.giop_types.specs.declared.json.interface.Interface.{Interface}
+use Rattle.giop_types.specs.declared.interfaces.interface.Interface.{Interface}
 use Rattle.giop_end.specs.declared.limits.Limits.{Limits}
 use Rattle.giop_session.specs.Runs.Driven.{InTurn}
 use Rattle.giop_end.specs.Ends.Begun.{end_state}

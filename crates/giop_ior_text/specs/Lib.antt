@@ -1,0 +1,2 @@
+pub mod IorTextFault
+pub mod IorText
