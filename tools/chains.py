@@ -72,7 +72,8 @@ def behind_each(waits, costs):
 
 
 class Order:
-    """The check at the head of the longest chain of those that are left goes first, with all jobs that pay.
+    """The check at the head of the longest chain of those that are left goes first, with all jobs that pay, but for a
+    processor that it leaves to each other check whose chain is nearly as long.
 
     A check ends with minutes in which few functions are left, so others go beside it at a lower priority, as far as
     memory bears them: with half as many jobs where their chain is nearly as long, since it comes to the head soon and
@@ -95,9 +96,11 @@ class Order:
         head = max((self.behind[it] for it in running), default=0)
         room = self.memory - sum(self.takes(it, jobs) for it, jobs in running.items())
         are_few = sum(self.costs[it] > 0 for it in ready) + len(running) <= self.processors
+        longest = max((self.behind[it] for it in (*ready, *running)), default=0)
+        near = [it for it in (*ready, *running) if self.behind[it] >= NEAR * longest]
         for it in sorted(ready, key=self.behind.get, reverse=True):
             is_head, is_near = self.behind[it] >= head, self.behind[it] >= NEAR * head
-            most = self.most(it)
+            most = min(self.most(it), 1 + max(1, self.processors - sum(other != it for other in near)))
             # of those that work; one hands it out
             half = 1 + (most - 1) // 4 * 2
             for jobs in (most, half) if is_head else (half, 1) if is_near and are_few else (1,):
