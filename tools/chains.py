@@ -7,8 +7,9 @@ TOP = pathlib.Path(__file__).resolve().parents[1]
 # What checks took of the processors when they were last measured, and what a line took of one that isn't there.
 COSTS, A_LINE = TOP / "tools" / "costs", 0.1
 # A further job reads, again and again, what the crate stands on. So each is for so many lines of the crate's own, and
-# for one more of them for so many lines below.
-LINES_OF_A_JOB, LINES_BELOW = 400, 25
+# for one more of them for so many lines below. Where processors would wait else, that reading costs nothing, but a
+# check of less than so many lines is mostly reading.
+LINES_OF_A_JOB, LINES_BELOW, LINES_WHERE_ANY_WAIT = 400, 25, 800
 # How far a check steps back behind the one at the head of the longest chain, where its own is nearly as long, and else.
 NEARLY, BESIDE = 3, 10
 # From which part of the head's lines on a chain is nearly as long.
@@ -40,9 +41,13 @@ def lines_of(name):
     return sum(it.read_bytes().count(b"\n") for it in files)
 
 
-def jobs_that_pay(name, most):
-    """How many jobs a crate's check has where it is first: an odd number, since one hands out work to the others."""
+def jobs_that_pay(name, most, any_wait=False):
+    """How many jobs a crate's check has where it is first: an odd number, since one hands out work to the others.
+
+    any_wait: whether processors would wait else.
+    """
     a_job = LINES_OF_A_JOB + sum(lines_of(it) for it in below(name)) / LINES_BELOW
+    a_job = min(a_job, LINES_WHERE_ANY_WAIT) if any_wait else a_job
     return min(most, 1 + int(lines_of(name) / a_job) // 2 * 2)
 
 
@@ -76,13 +81,14 @@ class Order:
     processor that it leaves to each other check whose chain is nearly as long.
 
     A check ends with minutes in which few functions are left, so others go beside it at a lower priority, as far as
-    memory bears them: with half as many jobs where their chain is nearly as long, since it comes to the head soon and
-    would be held up, and else with one, since each job more takes processor time. So they have one as well where
-    there are more checks than processors.
+    memory bears them: with half of the jobs that pay where their chain is nearly as long, since it comes to the head
+    soon and would be held up, and else with one, since each job more takes processor time. So they have one as well
+    where there are more checks than processors.
     """
 
     def __init__(self, waits, costs, most, memory, takes):
-        """most: how many jobs a check may have; takes: how much of the memory it takes with so many."""
+        """most: how many jobs a check may have, and where processors would wait else; takes: how much of the memory it
+        takes with so many."""
         self.waits, self.costs, self.behind = waits, costs, behind_each(waits, costs)
         self.most, self.memory, self.takes = most, memory, takes
         self.processors = len(os.sched_getaffinity(0))
@@ -100,9 +106,10 @@ class Order:
         near = [it for it in (*ready, *running) if self.behind[it] >= NEAR * longest]
         for it in sorted(ready, key=self.behind.get, reverse=True):
             is_head, is_near = self.behind[it] >= head, self.behind[it] >= NEAR * head
-            most = min(self.most(it), 1 + max(1, self.processors - sum(other != it for other in near)))
+            pay = self.most(it, is_head and are_few)
+            most = min(pay, 1 + max(1, self.processors - sum(other != it for other in near)))
             # of those that work; one hands it out
-            half = 1 + (most - 1) // 4 * 2
+            half = 1 + (pay - 1) // 4 * 2
             for jobs in (most, half) if is_head else (half, 1) if is_near and are_few else (1,):
                 if not running or self.takes(it, jobs) <= room:
                     return it, jobs, 0 if is_head else NEARLY if is_near else BESIDE
