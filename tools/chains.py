@@ -7,9 +7,8 @@ TOP = pathlib.Path(__file__).resolve().parents[1]
 # What checks took of the processors when they were last measured, and what a line took of one that isn't there.
 COSTS, A_LINE = TOP / "tools" / "costs", 0.1
 # A further job reads, again and again, what the crate stands on. So each is for so many lines of the crate's own, and
-# for one more of them for so many lines below. Where processors would wait else, that reading costs nothing, but a
-# check of less than so many lines is mostly reading.
-LINES_OF_A_JOB, LINES_BELOW, LINES_WHERE_ANY_WAIT = 400, 25, 800
+# for one more of them for so many lines below. Where processors would wait else, that reading costs nothing.
+LINES_OF_A_JOB, LINES_BELOW = 400, 25
 # How far a check steps back behind the one at the head of the longest chain, where its own is nearly as long, and else.
 NEARLY, BESIDE = 3, 10
 # From which part of the head's lines on a chain is nearly as long.
@@ -46,9 +45,8 @@ def jobs_that_pay(name, most, any_wait=False):
 
     any_wait: whether processors would wait else.
     """
-    a_job = LINES_OF_A_JOB + sum(lines_of(it) for it in below(name)) / LINES_BELOW
-    a_job = min(a_job, LINES_WHERE_ANY_WAIT) if any_wait else a_job
-    return min(most, 1 + int(lines_of(name) / a_job) // 2 * 2)
+    reading = 0 if any_wait else sum(lines_of(it) for it in below(name)) / LINES_BELOW
+    return min(most, 1 + int(lines_of(name) / (LINES_OF_A_JOB + reading)) // 2 * 2)
 
 
 @functools.cache
@@ -106,7 +104,7 @@ class Order:
         near = [it for it in (*ready, *running) if self.behind[it] >= NEAR * longest]
         for it in sorted(ready, key=self.behind.get, reverse=True):
             is_head, is_near = self.behind[it] >= head, self.behind[it] >= NEAR * head
-            pay = self.most(it, is_head and are_few)
+            pay = self.most(it, is_near and are_few)
             most = min(pay, 1 + max(1, self.processors - sum(other != it for other in near)))
             # of those that work; one hands it out
             half = 1 + (pay - 1) // 4 * 2
