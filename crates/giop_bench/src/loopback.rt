@@ -99,8 +99,8 @@ fn long_of(values: &ValueList, at: usize) -> i32 {
     }
 }
 
-/// What is answered to the call of an id: its sum.
-pub fn reply_to(alloc: Global, end: &ServerEnd<'_>, id: u32) -> Option<Reply> {
+// What is answered to the call of an id: its sum.
+fn reply_to(alloc: Global, end: &ServerEnd<'_>, id: u32) -> Option<Reply> {
     let ServerEntry::Asked { request } = end.entry(id)? else {
         return None;
     };
@@ -113,57 +113,95 @@ pub fn reply_to(alloc: Global, end: &ServerEnd<'_>, id: u32) -> Option<Reply> {
     })
 }
 
+/// Answers the call of an id, and takes it out.
+pub fn answer(alloc: Global, end: &mut ServerEnd<'_>, id: u32) -> Option<()> {
+    let reply = reply_to(alloc, end, id)?;
+    end.answer(reply, Form::default()).ok()?;
+    end.take(id).ok()?;
+    Some(())
+}
+
 fn answer_all(alloc: Global, end: &mut ServerEnd<'_>, stream: &TcpStream) -> Option<()> {
     for id in 0..TOGETHER {
-        let reply = reply_to(alloc, end, id)?;
-        end.answer(reply, Form::default()).ok()?;
-        end.take(id).ok()?;
+        answer(alloc, end, id)?;
     }
     let mut writer = stream;
     write_out(end, &mut writer).ok()
+}
+
+// What a call came to.
+fn sum_of(entry: &ClientEntry) -> Option<i32> {
+    let ClientEntry::Done { reply, .. } = entry else {
+        return None;
+    };
+    let ReplyBody::NoException(outs) = &reply.body else {
+        return None;
+    };
+    Some(long_of(outs, 0))
 }
 
 /// Takes each of so many calls out, with what it came to.
 pub fn take_all(end: &mut ClientEnd<'_>, at_once: u32, sum: u64) -> Option<u64> {
     let mut sum = sum;
     for id in 0..at_once {
-        let ClientEntry::Done { reply, .. } = end.take(id).ok()?? else {
-            return None;
-        };
-        let ReplyBody::NoException(outs) = &reply.body else {
-            return None;
-        };
-        sum = mixed(sum, long_of(outs, 0).to_le_bytes()[0] as u64);
+        let entry = end.take(id).ok()??;
+        sum = mixed(sum, sum_of(&entry)?.to_le_bytes()[0] as u64);
     }
     Some(sum)
 }
 
-// Calls, answers and takes so many calls out at a time, over both ends of a connection.
-fn run_over(
+// Calls, answers and takes out so many calls at once, over both ends of a connection.
+fn wave(
+    alloc: Global,
+    client: &mut ClientEnd<'_>,
+    calling: &TcpStream,
+    server: &mut ServerEnd<'_>,
+    serving: &TcpStream,
+    sum: u64,
+) -> Option<u64> {
+    call_all(alloc, client, calling, TOGETHER)?;
+    hear(server, serving, 16 * REQUEST)?;
+    answer_all(alloc, server, serving)?;
+    hear(client, calling, 16 * REPLY)?;
+    take_all(client, TOGETHER, sum)
+}
+
+fn waves(
+    alloc: Global,
+    client: &mut ClientEnd<'_>,
+    calling: &TcpStream,
+    server: &mut ServerEnd<'_>,
+    serving: &TcpStream,
+) -> Option<u64> {
+    let mut sum = 0;
+    for _ in 0..WAVES {
+        sum = wave(alloc, client, calling, server, serving, sum)?;
+    }
+    Some(sum)
+}
+
+fn run_by(
     alloc: Global,
     interface: &Interface,
+    client: &mut ClientEnd<'_>,
     calling: &TcpStream,
     serving: &TcpStream,
 ) -> Option<u64> {
-    let mut client = ClientEnd::new(alloc, interface, LIMITS);
     let mut server = ServerEnd::new(alloc, interface, LIMITS);
-    let mut sum = 0;
-    for _ in 0..WAVES {
-        call_all(alloc, &mut client, calling, TOGETHER)?;
-        hear(&mut server, serving, 16 * REQUEST)?;
-        answer_all(alloc, &mut server, serving)?;
-        hear(&mut client, calling, 16 * REPLY)?;
-        sum = take_all(&mut client, TOGETHER, sum)?;
-    }
-    Some(sum)
+    waves(alloc, client, calling, &mut server, serving)
+}
+
+fn run_over(alloc: Global, calling: &TcpStream, serving: &TcpStream) -> Option<u64> {
+    let interface = interface_from_json(alloc, J).ok()?;
+    let mut client = ClientEnd::new(alloc, &interface, LIMITS);
+    run_by(alloc, &interface, &mut client, calling, serving)
 }
 
 /// Runs the calls, and returns a checksum of what they came to; `None` where a connection can't be
 /// made or breaks, or it is out of memory.
 pub fn run(rt: &HostRuntime) -> Option<u64> {
-    let interface = interface_from_json(rt.alloc(), J).ok()?;
     let listener = TcpListener::bind(rt, (Ipv4Addr::LOCALHOST, 0)).ok()?;
     let calling = TcpStream::connect(rt, listener.local_addr().ok()?).ok()?;
     let (serving, _) = listener.accept().ok()?;
-    run_over(rt.alloc(), &interface, &calling, &serving)
+    run_over(rt.alloc(), &calling, &serving)
 }

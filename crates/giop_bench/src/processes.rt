@@ -3,8 +3,8 @@
 //! times, 1 or 16 at once. `bench/processes/run` times both beside omniORB's.
 ghost use Rattle.std.specs.Prelude.{◌≤◌};
 
-use crate::loopback::{J, LIMITS, REPLY, call_all, hear, reply_to, take_all};
-use giop_end::{ClientEnd, Form, ServerEnd, turn};
+use crate::loopback::{J, LIMITS, REPLY, answer, call_all, hear, take_all};
+use giop_end::{ClientEnd, ServerEnd, turn};
 use giop_json::interface_from_json;
 use std::alloc::Global;
 use std::net::{Ipv4Addr, TcpListener, TcpStream};
@@ -15,9 +15,7 @@ const CALLS: u32 = 100_000;
 fn answer_each(alloc: Global, end: &mut ServerEnd<'_>) -> Option<u64> {
     let ids = end.ids(alloc).ok()?;
     for id in &ids {
-        let reply = reply_to(alloc, end, *id)?;
-        end.answer(reply, Form::default()).ok()?;
-        end.take(*id).ok()?;
+        answer(alloc, end, *id)?;
     }
     Some(ids.len() as u64)
 }
@@ -36,15 +34,48 @@ fn serve_all(alloc: Global, end: &mut ServerEnd<'_>, stream: &TcpStream) -> Opti
     None
 }
 
+fn serve(alloc: Global, stream: &TcpStream) -> Option<u64> {
+    let interface = interface_from_json(alloc, J).ok()?;
+    let mut end = ServerEnd::new(alloc, &interface, LIMITS);
+    serve_all(alloc, &mut end, stream)
+}
+
 /// Prints its port, and serves one connection there. How many calls there were; `None` where the
 /// connection breaks, or it is out of memory.
 pub fn server(rt: &HostRuntime) -> Option<u64> {
-    let interface = interface_from_json(rt.alloc(), J).ok()?;
     let listener = TcpListener::bind(rt, (Ipv4Addr::LOCALHOST, 0)).ok()?;
     println!(rt; "{}", listener.local_addr().ok()?.port()).ok()?;
     let (stream, _) = listener.accept().ok()?;
-    let mut end = ServerEnd::new(rt.alloc(), &interface, LIMITS);
-    serve_all(rt.alloc(), &mut end, &stream)
+    serve(rt.alloc(), &stream)
+}
+
+// Calls CALLS times, so many at once.
+fn call_each(
+    alloc: Global,
+    end: &mut ClientEnd<'_>,
+    stream: &TcpStream,
+    at_once: u32,
+) -> Option<u64>
+    requires { at_once ≤ 16 }
+{
+    if at_once == 0 {
+        return None;
+    }
+    let mut sum = 0;
+    for _ in 0..CALLS / at_once {
+        call_all(alloc, end, stream, at_once)?;
+        hear(end, stream, at_once as usize * REPLY)?;
+        sum = take_all(end, at_once, sum)?;
+    }
+    Some(sum)
+}
+
+fn call(alloc: Global, stream: &TcpStream, at_once: u32) -> Option<u64>
+    requires { at_once ≤ 16 }
+{
+    let interface = interface_from_json(alloc, J).ok()?;
+    let mut end = ClientEnd::new(alloc, &interface, LIMITS);
+    call_each(alloc, &mut end, stream, at_once)
 }
 
 /// Calls the server at a port, so many times at once. A checksum of what the calls came to; `None`
@@ -52,18 +83,7 @@ pub fn server(rt: &HostRuntime) -> Option<u64> {
 pub fn client(rt: &HostRuntime, port: &str, at_once: u32) -> Option<u64>
     requires { at_once ≤ 16 }
 {
-    if at_once == 0 {
-        return None;
-    }
-    let interface = interface_from_json(rt.alloc(), J).ok()?;
     let port = port.parse::<u16>().ok()?;
     let stream = TcpStream::connect(rt, (Ipv4Addr::LOCALHOST, port)).ok()?;
-    let mut end = ClientEnd::new(rt.alloc(), &interface, LIMITS);
-    let mut sum = 0;
-    for _ in 0..CALLS / at_once {
-        call_all(rt.alloc(), &mut end, &stream, at_once)?;
-        hear(&mut end, &stream, at_once as usize * REPLY)?;
-        sum = take_all(&mut end, at_once, sum)?;
-    }
-    Some(sum)
+    call(rt.alloc(), &stream, at_once)
 }

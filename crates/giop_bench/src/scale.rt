@@ -33,14 +33,19 @@ fn flood(alloc: Global, interface: &Interface) -> Option<u64> {
     let mut messages = pieces(alloc, interface, 32_768)?;
     let message = messages.first_mut()?;
     let mut end = ServerEnd::new(alloc, interface, LIMITS);
+    heard(alloc, &mut end, message)
+}
+
+// An end hears a Request MESSAGES times, each under the next id.
+fn heard(alloc: Global, end: &mut ServerEnd<'_>, message: &mut [u8]) -> Option<u64> {
+    if message.len() < 16 {
+        return None;
+    }
     let mut sum = 0;
     for k in 0..MESSAGES {
-        if message.len() < 16 {
-            return None;
-        }
         set_id(message, k % IDS);
-        feed(&mut end, message)?;
-        sum = serve(alloc, &mut end, k % IDS, sum)?;
+        feed(end, message)?;
+        sum = serve(alloc, end, k % IDS, sum)?;
     }
     Some(mixed(sum, end.rest() as u64))
 }

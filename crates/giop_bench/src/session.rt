@@ -137,6 +137,15 @@ pub fn set_id(message: &mut [u8], id: u32)
     message[12..16].copy_from_slice(&id.to_be_bytes());
 }
 
+/// Feeds a message under a request id.
+pub fn feed_as(end: &mut ServerEnd<'_>, message: &mut [u8], id: u32) -> Option<()>
+    requires { 16 ≤ length message.old }
+    ensures { length message.new ≡ length message.old }
+{
+    set_id(message, id);
+    end.feed(message).ok()
+}
+
 /// Hears so many calls over so many ids, each answered when so many wait.
 pub fn calls(
     alloc: Global,
@@ -151,23 +160,30 @@ pub fn calls(
     requires most { waiting ≤ count }
     requires ids { 0 < ids }
 {
-    let (mut ping, mut add) = (PING, ADD);
     let mut end = ServerEnd::new(alloc, interface, limits);
+    heard(alloc, &mut end, count, ids, waiting)
+}
+
+// An end hears the calls, and answers them.
+fn heard(alloc: Global, end: &mut ServerEnd<'_>, count: u32, ids: u32, waiting: u32) -> Option<u64>
+    requires some { 0 < waiting }
+    requires most { waiting ≤ count }
+    requires ids { 0 < ids }
+{
+    let (mut ping, mut add) = (PING, ADD);
     let mut sum = 0;
     for k in 0..count {
         if k % 2 == 0 {
-            set_id(&mut ping, k % ids);
-            end.feed(&ping).ok()?;
+            feed_as(end, &mut ping, k % ids)?;
         } else {
-            set_id(&mut add, k % ids);
-            end.feed(&add).ok()?;
+            feed_as(end, &mut add, k % ids)?;
         }
         if k + 1 >= waiting {
-            sum = serve(alloc, &mut end, (k + 1 - waiting) % ids, sum)?;
+            sum = serve(alloc, end, (k + 1 - waiting) % ids, sum)?;
         }
     }
     for k in count - (waiting - 1)..count {
-        sum = serve(alloc, &mut end, k % ids, sum)?;
+        sum = serve(alloc, end, k % ids, sum)?;
     }
     Some(mixed(sum, end.rest() as u64))
 }
@@ -207,27 +223,40 @@ fn spelled(alloc: Global, message: &Msg) -> Option<Vec<u8>> {
     Some(octets)
 }
 
-/// The messages of a Request of `put`, of so many octets at most.
-pub fn pieces(alloc: Global, interface: &Interface, piece: u32) -> Option<Vec<Vec<u8>>> {
+fn put_octets(alloc: Global, interface: &Interface) -> Option<Vec<u8>> {
     let request = put_request(alloc).ok()?;
-    let joined = request.encode(alloc, interface, Order::Big).ok()?;
-    if !can_cut(Kind::Request, &joined, piece) {
+    request.encode(alloc, interface, Order::Big).ok()
+}
+
+// The messages of a Request's octets, of so many octets at most.
+fn messages(alloc: Global, joined: &[u8], piece: u32) -> Option<Vec<Msg>> {
+    if !can_cut(Kind::Request, joined, piece) {
         return None;
     }
-    let messages = cut(
+    cut(
         alloc,
         Version::V12,
         Kind::Request,
         Order::Big,
-        &joined,
+        joined,
         piece,
     )
-    .ok()?;
+    .ok()
+}
+
+fn all_spelled(alloc: Global, messages: &[Msg]) -> Option<Vec<Vec<u8>>> {
     let mut pieces = Vec::new(alloc);
-    for message in &messages {
+    for message in messages {
         pieces.push(spelled(alloc, message)?).ok()?;
     }
     Some(pieces)
+}
+
+/// The messages of a Request of `put`, of so many octets at most.
+pub fn pieces(alloc: Global, interface: &Interface, piece: u32) -> Option<Vec<Vec<u8>>> {
+    let joined = put_octets(alloc, interface)?;
+    let messages = messages(alloc, &joined, piece)?;
+    all_spelled(alloc, &messages)
 }
 
 // Feeds a message once with each id.
@@ -236,8 +265,7 @@ fn feed_all(end: &mut ServerEnd<'_>, message: &mut [u8]) -> Option<()> {
         return None;
     }
     for id in 0..TOGETHER {
-        set_id(message, id);
-        end.feed(message).ok()?;
+        feed_as(end, message, id)?;
     }
     Some(())
 }
@@ -258,9 +286,14 @@ fn round(alloc: Global, end: &mut ServerEnd<'_>, pieces: &mut [Vec<u8>], sum: u6
 fn put_all(alloc: Global, interface: &Interface) -> Option<u64> {
     let mut pieces = pieces(alloc, interface, 512)?;
     let mut end = ServerEnd::new(alloc, interface, LIMITS);
+    rounds(alloc, &mut end, &mut pieces)
+}
+
+// All rounds of the pieces.
+fn rounds(alloc: Global, end: &mut ServerEnd<'_>, pieces: &mut [Vec<u8>]) -> Option<u64> {
     let mut sum = 0;
     for _ in 0..ROUNDS {
-        sum = round(alloc, &mut end, &mut pieces, sum)?;
+        sum = round(alloc, end, pieces, sum)?;
     }
     Some(mixed(sum, end.rest() as u64))
 }

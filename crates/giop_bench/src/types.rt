@@ -5,10 +5,15 @@
 //! And 10,000 and 100,000 such structs as JSON, written, and written and read again.
 //! `bench/types/twin.rs` does the same in plain Rust, but for what reads JSON.
 use crate::work::mixed;
-use giop_cdr::{CdrIn, CdrOut, OctetList, Order, SliceOctets};
-use giop_json::{value_from_json, value_to_json};
-use giop_types::{CheckedDesc, Desc, NamedDesc, Value, decode, encode};
+use giop_cdr::{CdrIn, CdrOut, Order, SliceOctets};
+use giop_json::{desc_from_json, value_from_json, value_to_json};
+use giop_types::{CheckedDesc, Value, decode, encode};
 use std::alloc::{AllocError, Global};
+
+const STRUCTS: &[u8] =
+    b"{\"sequence\":{\"struct\":[[\"a\",\"octet\"],[\"b\",\"longlong\"],[\"c\",\"string\"],[\"d\",\"ushort\"],[\"e\",\"boolean\"]]}}";
+
+const LONGS: &[u8] = b"{\"sequence\":\"long\"}";
 
 const VALUES: u32 = 100_000;
 
@@ -39,25 +44,6 @@ fn longs(alloc: Global, order: Order) -> Result<Vec<u8>, AllocError> {
     Ok(out.into_bytes())
 }
 
-fn named(alloc: Global, name: &[u8], desc: Desc) -> Result<NamedDesc, AllocError> {
-    let name = OctetList::from_slice(alloc, name)?;
-    Ok(NamedDesc { name, desc })
-}
-
-fn a_struct(alloc: Global) -> Result<Desc, AllocError> {
-    Ok(Desc::Members(vec![in alloc;
-        named(alloc, b"a", Desc::Octet)?,
-        named(alloc, b"b", Desc::LongLong)?,
-        named(alloc, b"c", Desc::Text(0))?,
-        named(alloc, b"d", Desc::UShort)?,
-        named(alloc, b"e", Desc::Boolean)?,
-    ]?))
-}
-
-fn items(alloc: Global, item: Desc) -> Result<Desc, AllocError> {
-    Ok(Desc::Items(Box::new(alloc, item)?, 0))
-}
-
 fn leaf(value: &Value) -> u64 {
     match value {
         Value::Octet(n) => *n as u64,
@@ -86,16 +72,27 @@ fn checksum(value: &Value) -> u64 {
     sum
 }
 
-// Reads the value of a message, TIMES times.
-fn read(alloc: Global, desc: &CheckedDesc, message: &[u8]) -> Option<u64> {
-    let source = SliceOctets::new(message);
+// The value that a message spells.
+fn value_of(alloc: Global, desc: &CheckedDesc, message: &[u8], order: Order) -> Option<Value> {
     if message.len() > 1 << 62 {
         return None;
     }
+    let source = SliceOctets::new(message);
+    decode(alloc, &mut CdrIn::new(&source, order, 0), desc).ok()
+}
+
+// A checksum of what came before and of octets that were written.
+fn written(sum: u64, out: &CdrOut) -> u64 {
+    let octets = out.as_slice();
+    let sum = mixed(sum, octets.last().map_or(0, |octet| *octet as u64));
+    mixed(sum, octets.len() as u64)
+}
+
+// Reads the value of a message, TIMES times.
+fn read(alloc: Global, desc: &CheckedDesc, message: &[u8]) -> Option<u64> {
     let mut sum = 0;
     for _ in 0..TIMES {
-        let mut input = CdrIn::new(&source, Order::Big, 0);
-        let value = decode(alloc, &mut input, desc).ok()?;
+        let value = value_of(alloc, desc, message, Order::Big)?;
         sum = mixed(sum, checksum(&value));
     }
     Some(sum)
@@ -103,36 +100,29 @@ fn read(alloc: Global, desc: &CheckedDesc, message: &[u8]) -> Option<u64> {
 
 // Writes the value of a message, TIMES times.
 fn write(alloc: Global, desc: &CheckedDesc, message: &[u8]) -> Option<u64> {
-    let source = SliceOctets::new(message);
-    if message.len() > 1 << 62 {
-        return None;
-    }
-    let value = decode(alloc, &mut CdrIn::new(&source, Order::Big, 0), desc).ok()?;
+    let value = value_of(alloc, desc, message, Order::Big)?;
     let mut sum = 0;
     for _ in 0..TIMES {
         let mut out = CdrOut::new(alloc, Order::Big, 0);
         encode(&mut out, desc, &value).ok()?;
-        sum = mixed(sum, out.as_slice().last().map_or(0, |octet| *octet as u64));
-        sum = mixed(sum, out.as_slice().len() as u64);
+        sum = written(sum, &out);
     }
     Some(sum)
 }
 
-// Reads the value of a message in little-endian order and writes it again, MANY times.
+// Reads the value of a message in little-endian order and writes it again.
+fn both_once(alloc: Global, desc: &CheckedDesc, message: &[u8], sum: u64) -> Option<u64> {
+    let value = value_of(alloc, desc, message, Order::Little)?;
+    let mut out = CdrOut::with_room(alloc, Order::Little, 0, message.len()).ok()?;
+    encode(&mut out, desc, &value).ok()?;
+    Some(written(mixed(sum, checksum(&value)), &out))
+}
+
+// The same, MANY times.
 fn both(alloc: Global, desc: &CheckedDesc, message: &[u8]) -> Option<u64> {
-    let source = SliceOctets::new(message);
-    if message.len() > 1 << 62 {
-        return None;
-    }
     let mut sum = 0;
     for _ in 0..MANY {
-        let mut input = CdrIn::new(&source, Order::Little, 0);
-        let value = decode(alloc, &mut input, desc).ok()?;
-        sum = mixed(sum, checksum(&value));
-        let mut out = CdrOut::with_room(alloc, Order::Little, 0, message.len()).ok()?;
-        encode(&mut out, desc, &value).ok()?;
-        sum = mixed(sum, out.as_slice().last().map_or(0, |octet| *octet as u64));
-        sum = mixed(sum, out.as_slice().len() as u64);
+        sum = both_once(alloc, desc, message, sum)?;
     }
     Some(sum)
 }
@@ -153,50 +143,78 @@ fn flat(alloc: Global, message: &[u8]) -> Option<u64> {
         sum = mixed(sum, read);
         let mut out = CdrOut::with_room(alloc, Order::Little, 0, message.len()).ok()?;
         out.write_longs(longs.as_slice()).ok()?;
-        sum = mixed(sum, out.as_slice().last().map_or(0, |octet| *octet as u64));
-        sum = mixed(sum, out.as_slice().len() as u64);
+        sum = written(sum, &out);
     }
     Some(sum)
 }
 
+fn json_once(
+    alloc: Global,
+    desc: &CheckedDesc,
+    value: &Value,
+    again: bool,
+    sum: u64,
+) -> Option<u64> {
+    let json = value_to_json(alloc, desc, value).ok()?;
+    if !again {
+        return Some(sum);
+    }
+    let back = value_from_json(alloc, desc, &json).ok()?;
+    Some(mixed(sum, checksum(&back)))
+}
+
 // Writes the value of a message as JSON, TIMES times, and reads it again where that is asked for.
 fn json(alloc: Global, desc: &CheckedDesc, message: &[u8], again: bool) -> Option<u64> {
-    let source = SliceOctets::new(message);
-    if message.len() > 1 << 62 {
-        return None;
-    }
-    let value = decode(alloc, &mut CdrIn::new(&source, Order::Big, 0), desc).ok()?;
+    let value = value_of(alloc, desc, message, Order::Big)?;
     let mut sum = checksum(&value);
     for _ in 0..TIMES {
-        let json = value_to_json(alloc, desc, &value).ok()?;
-        if again {
-            let back = value_from_json(alloc, desc, &json).ok()?;
-            sum = mixed(sum, checksum(&back));
-        }
+        sum = json_once(alloc, desc, &value, again, sum)?;
     }
     Some(sum)
+}
+
+// The message of a loop.
+fn message_of(alloc: Global, name: &str) -> Option<Vec<u8>> {
+    let message = match name {
+        "structs-read" | "structs-write" => structs(alloc, VALUES),
+        "json-write" | "json-again" => structs(alloc, VALUES / 10),
+        "json-write-10" | "json-again-10" => structs(alloc, VALUES),
+        "longs-read" | "longs-write" => longs(alloc, Order::Big),
+        "longs-both" | "longs-flat" => longs(alloc, Order::Little),
+        _ => return None,
+    };
+    message.ok()
+}
+
+// The description of its value.
+fn description_of(alloc: Global, name: &str) -> Option<CheckedDesc> {
+    let text = if name.starts_with("longs") {
+        LONGS
+    } else {
+        STRUCTS
+    };
+    desc_from_json(alloc, text).ok()
+}
+
+// Runs the loop of a name over a message.
+fn looped(alloc: Global, name: &str, desc: &CheckedDesc, message: &[u8]) -> Option<u64> {
+    if name.starts_with("json") {
+        json(alloc, desc, message, name.starts_with("json-again"))
+    } else if name.ends_with("flat") {
+        flat(alloc, message)
+    } else if name.ends_with("both") {
+        both(alloc, desc, message)
+    } else if name.ends_with("read") {
+        read(alloc, desc, message)
+    } else {
+        write(alloc, desc, message)
+    }
 }
 
 /// Runs a loop, and returns its checksum; `None` where there is no such loop, or it is out of
 /// memory.
 pub fn run(alloc: Global, name: &str) -> Option<u64> {
-    let (item, message) = match name {
-        "structs-read" | "structs-write" => (a_struct(alloc).ok()?, structs(alloc, VALUES).ok()?),
-        "json-write" | "json-again" => (a_struct(alloc).ok()?, structs(alloc, VALUES / 10).ok()?),
-        "json-write-10" | "json-again-10" => (a_struct(alloc).ok()?, structs(alloc, VALUES).ok()?),
-        "longs-read" | "longs-write" => (Desc::Long, longs(alloc, Order::Big).ok()?),
-        "longs-both" => (Desc::Long, longs(alloc, Order::Little).ok()?),
-        "longs-flat" => return flat(alloc, &longs(alloc, Order::Little).ok()?),
-        _ => return None,
-    };
-    let desc = CheckedDesc::check(items(alloc, item).ok()?).ok()?;
-    if name.starts_with("json") {
-        json(alloc, &desc, &message, name.starts_with("json-again"))
-    } else if name.ends_with("both") {
-        both(alloc, &desc, &message)
-    } else if name.ends_with("read") {
-        read(alloc, &desc, &message)
-    } else {
-        write(alloc, &desc, &message)
-    }
+    let message = message_of(alloc, name)?;
+    let desc = description_of(alloc, name)?;
+    looped(alloc, name, &desc, &message)
 }

@@ -90,28 +90,6 @@ fn passes<A: Hearing, B: Hearing>(
     }
 }
 
-// So many calls at once, and what they come to.
-fn wave(
-    alloc: Global,
-    interface: &Interface,
-    client: &mut ClientEnd<'_>,
-    server: &mut ServerEnd<'_>,
-    wires: Option<&Wires<'_>>,
-    octets: &mut [u8],
-    at_once: usize,
-    sum: u64,
-) -> Option<u64>
-    requires { at_once ≤ 16 }
-{
-    call_all(alloc, interface, client, at_once)?;
-    let way = wires.map(|wires| (wires.client, wires.server));
-    passes(client, server, way, octets, REQUEST * at_once)?;
-    let sum = answer_all(alloc, interface, server, at_once, sum)?;
-    let way = wires.map(|wires| (wires.server, wires.client));
-    passes(server, client, way, octets, REPLY * at_once)?;
-    take_all(alloc, interface, client, at_once, sum)
-}
-
 fn call_all(
     alloc: Global,
     interface: &Interface,
@@ -159,40 +137,52 @@ fn take_all(
     Some(sum)
 }
 
-// So many waves of calls.
-fn waves(
+// So many waves of calls between two ends, and what they come to.
+fn waves_of(
     alloc: Global,
     interface: &Interface,
+    client: &mut ClientEnd<'_>,
+    server: &mut ServerEnd<'_>,
     wires: Option<&Wires<'_>>,
     count: u32,
     at_once: usize,
 ) -> Option<u64>
     requires { at_once ≤ 16 }
 {
-    let mut client = ClientEnd::new(alloc, interface, LIMITS);
-    let mut server = ServerEnd::new(alloc, interface, LIMITS);
+    let there = wires.map(|wires| (wires.client, wires.server));
+    let back = wires.map(|wires| (wires.server, wires.client));
     let mut octets = [0u8; ROOM];
     let mut sum = 0;
     for _ in 0..count {
-        sum = wave(
-            alloc,
-            interface,
-            &mut client,
-            &mut server,
-            wires,
-            &mut octets,
-            at_once,
-            sum,
-        )?;
+        call_all(alloc, interface, client, at_once)?;
+        passes(client, server, there, &mut octets, REQUEST * at_once)?;
+        sum = answer_all(alloc, interface, server, at_once, sum)?;
+        passes(server, client, back, &mut octets, REPLY * at_once)?;
+        sum = take_all(alloc, interface, client, at_once, sum)?;
     }
     Some(sum)
+}
+
+fn waves(
+    alloc: Global,
+    interface: &Interface,
+    client: &mut ClientEnd<'_>,
+    wires: Option<&Wires<'_>>,
+    count: u32,
+    at_once: usize,
+) -> Option<u64>
+    requires { at_once ≤ 16 }
+{
+    let mut server = ServerEnd::new(alloc, interface, LIMITS);
+    waves_of(alloc, interface, client, &mut server, wires, count, at_once)
 }
 
 /// Waves of calls over memory. Their checksum.
 pub fn over_memory(alloc: Global, interface: &Interface, count: u32, at_once: usize) -> Option<u64>
     requires { at_once ≤ 16 }
 {
-    waves(alloc, interface, None, count, at_once)
+    let mut client = ClientEnd::new(alloc, interface, LIMITS);
+    waves(alloc, interface, &mut client, None, count, at_once)
 }
 
 /// Waves of calls over a connection on 127.0.0.1. Their checksum.
@@ -211,5 +201,13 @@ pub fn over_loopback(
         client: &client,
         server: &server,
     };
-    waves(rt.alloc(), interface, Some(&wires), count, at_once)
+    let mut end = ClientEnd::new(rt.alloc(), interface, LIMITS);
+    waves(
+        rt.alloc(),
+        interface,
+        &mut end,
+        Some(&wires),
+        count,
+        at_once,
+    )
 }

@@ -5,7 +5,7 @@ ghost use Rattle.std.specs.Prelude.{◌≡◌, ◌≤◌, length};
 use crate::c_calls::answering::answers;
 use crate::c_calls::row::Row;
 use crate::c_calls::{LIMITS, copied, mixed};
-use crate::session::{ADD, PING, set_id};
+use crate::session::{ADD, PING, feed_as};
 use giop_end::ServerEnd;
 use giop_types::Interface;
 use std::alloc::Global;
@@ -40,20 +40,23 @@ fn serves(
     Some(sum)
 }
 
-/// Hears so many calls, each served before the next comes.
-pub fn run(alloc: Global, interface: &Interface, calls: u32) -> Option<u64> {
+// An end hears the calls, and serves them.
+fn heard(alloc: Global, interface: &Interface, end: &mut ServerEnd<'_>, calls: u32) -> Option<u64> {
     let (mut ping, mut add) = (PING, ADD);
-    let mut end = ServerEnd::new(alloc, interface, LIMITS);
     let mut sum = 0;
     for k in 0..calls {
         if k % 2 == 0 {
-            set_id(&mut ping, k % IDS);
-            end.feed(&ping).ok()?;
+            feed_as(end, &mut ping, k % IDS)?;
         } else {
-            set_id(&mut add, k % IDS);
-            end.feed(&add).ok()?;
+            feed_as(end, &mut add, k % IDS)?;
         }
-        sum = serves(alloc, interface, &mut end, k % IDS, sum)?;
+        sum = serves(alloc, interface, end, k % IDS, sum)?;
     }
     Some(mixed(sum, end.rest() as u64))
+}
+
+/// Hears so many calls, each served before the next comes.
+pub fn run(alloc: Global, interface: &Interface, calls: u32) -> Option<u64> {
+    let mut end = ServerEnd::new(alloc, interface, LIMITS);
+    heard(alloc, interface, &mut end, calls)
 }
