@@ -1,8 +1,6 @@
 -- What `call` and `locate` rest on.
 pub mod FeedingLemmas
 pub mod FollowingLemmas
-pub mod FormLemmas
-pub mod FoundLemmas
 pub mod LocateFollowingLemmas
 pub mod LocatingLemmas
 pub mod PrintedLemmas

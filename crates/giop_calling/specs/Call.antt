@@ -3,8 +3,6 @@ pub mod Calling
 pub mod Endings
 pub mod Feeding
 pub mod Following
-pub mod Forms
-pub mod Lines
 pub mod LocateFollowing
 pub mod Locating
 pub mod Printed

@@ -14,20 +14,16 @@ ghost use Rattle.giop_commands.specs.Session.Printed.{told};
 ghost use Rattle.giop_commands.specs.Session.Steps.{Upto};
 ghost use Rattle.giop_commands.specs.Session.Traffic.{traffic};
 
-pub mod calls;
-pub mod feed;
 pub mod following;
 pub mod given;
-pub mod lines;
 pub mod locate_following;
 pub mod locating;
 pub mod streaming;
 mod well;
-pub mod words;
 
-use crate::call::calls::CallLine;
 use crate::call::given::Calling;
 use crate::call::well::{all_well, are_over};
+use giop_asked_calls::calls::CallLine;
 use giop_cdr::OctetList;
 use giop_commands::session::ending::{Ending, ending_of};
 use giop_commands::session::faults::broken::broken_status;

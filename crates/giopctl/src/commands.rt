@@ -2,11 +2,5 @@
 //! connections and standard output that it runs over. Its words are giop_words', and what it prints
 //! is that of giop_commands and the crates beside it, over any reader and writer.
 
-pub mod call;
 pub mod check;
-pub mod locate;
-mod object;
-pub mod ping;
-mod sending;
-pub mod serve;
 pub mod trace;

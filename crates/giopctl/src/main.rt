@@ -3,9 +3,9 @@
 #![tactic(auto)]
 
 mod commands;
-mod connection;
 
-use commands::{call, check, locate, ping, serve, trace};
+use commands::{check, trace};
+use giop_dialing::{call, locate, ping};
 use giop_files::report;
 use giop_reading::{convert, dump};
 use giop_show::status::Status;
@@ -30,7 +30,7 @@ fn run(rt: &HostRuntime) -> Status {
         Ok(Some(Task::Call(words))) => call::call(rt, words),
         Ok(Some(Task::Locate(words))) => locate::locate(rt, words),
         Ok(Some(Task::Ping(words))) => ping::ping(rt, words),
-        Ok(Some(Task::Serve(words))) => serve::serve(rt, &words),
+        Ok(Some(Task::Serve(words))) => giop_listening::serve(rt, &words),
         Ok(None) => Status::Usage,
         Err(error) => report::usage_status(rt, &error),
     }

@@ -12,7 +12,7 @@ use Rattle.giop_calls.specs.declared.client.entry.ClientEntry.TheVariants.{Waiti
 use Rattle.giop_end.specs.declared.limits.Limits.{Limits}
 use Rattle.giop_table.specs.CallTable.{Call, put_call}
 use Rattle.giop_commands.specs.Session.Acts.{Outbox, outbox}
-use Rattle.giop_calling.specs.declared.call.calls.CallLine.{CallLine}
+use Rattle.giop_asked_calls.specs.declared.calls.CallLine.{CallLine}
 use Rattle.giop_calling.specs.Call.Calling.{Asked, ClientCalls, new_box}
 use Rattle.laws_in_use.specs.Exchange.{ping}
 use Rattle.laws_in_use.specs.Pinged.{ping_whole}

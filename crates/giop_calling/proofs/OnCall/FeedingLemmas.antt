@@ -5,12 +5,12 @@ use Rattle.giop_calls.specs.ClientTable.{is_closed}
 use Rattle.giop_msg.specs.Stream.{Unread}
 use Rattle.giop_end.specs.declared.session_fault.SessionFault.{SessionFault}
 use Rattle.giop_end.specs.Pumping.{Between, between}
-use Rattle.giop_calling.specs.declared.call.calls.CallLine.{CallLine}
+use Rattle.giop_asked_calls.specs.declared.calls.CallLine.{CallLine}
 use Rattle.giop_show.specs.declared.failure.Failure.{Failure}
 use Rattle.giop_forms.specs.declared.line_form.LineForm.{LineForm}
 use Rattle.giop_commands.specs.declared.session.ending.Ending.{Ending}
 use Rattle.giop_calling.specs.Call.Feeding.{Fed, FedEnd, FedEnds, FedStreams, FedTurn, Feeds, fed, with_calls}
-use Rattle.giop_calling.specs.Call.Lines.{Feed}
+use Rattle.giop_asked_calls.specs.Lines.{Feed}
 use Rattle.giop_calling.specs.Call.Streaming.{CourseEnds, TurnTells, all_done, course, left_text, new_client, stream_status}
 use Rattle.giop_calling.specs.Call.Calling.{Asked, ClientCalls}
 use Rattle.giop_commands.specs.Session.Endings.{Ends}

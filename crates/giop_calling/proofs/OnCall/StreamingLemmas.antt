@@ -13,7 +13,7 @@ use Rattle.giop_end.specs.declared.end.End.{End}
 use Rattle.giop_end.specs.declared.session_fault.SessionFault.{SessionFault}
 use Rattle.giop_table.specs.CallTable.{Held}
 use Rattle.giop_end.specs.Pumping.{Between, between}
-use Rattle.giop_calling.specs.declared.call.calls.CallLine.{CallLine}
+use Rattle.giop_asked_calls.specs.declared.calls.CallLine.{CallLine}
 use Rattle.giop_show.specs.declared.failure.Failure.{Failure}
 use Rattle.giop_forms.specs.declared.line_form.LineForm.{LineForm}
 use Rattle.giop_commands.specs.declared.session.ending.Ending.{Ending}

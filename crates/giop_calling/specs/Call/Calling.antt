@@ -26,7 +26,7 @@ use Rattle.giop_end.specs.Hearing.Heard.{hears_by, in_call}
 use Rattle.giop_end.specs.Ends.View.{end_between}
 use Rattle.giop_end.specs.Pumping.{Between, between}
 use Rattle.giop_table.specs.Sending.{entry_of}
-use Rattle.giop_calling.specs.declared.call.calls.CallLine.{CallLine}
+use Rattle.giop_asked_calls.specs.declared.calls.CallLine.{CallLine}
 use Rattle.giop_calling.specs.declared.call.given.Calling.{Calling}
 use Rattle.giop_show.specs.declared.failure.Failure.{Failure}
 use Rattle.giop_commands.specs.Session.Acts.{ActsOrTells, Outbox, SendsAll, outbox}

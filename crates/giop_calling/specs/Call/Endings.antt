@@ -1,7 +1,7 @@
 -- How `call` ends: what it did, and what is left where its input ends.
 use Rattle.std.specs.Prelude.{ℕ, List, Option}
 use Rattle.giop_calls.specs.ClientTable as client
-use Rattle.giop_calling.specs.declared.call.calls.CallLine.{CallLine}
+use Rattle.giop_asked_calls.specs.declared.calls.CallLine.{CallLine}
 use Rattle.giop_calling.specs.declared.call.given.Calling.{Calling}
 use Rattle.giop_forms.specs.declared.line_form.LineForm.{LineForm}
 use Rattle.giop_commands.specs.declared.session.ending.Ending.{Ending}

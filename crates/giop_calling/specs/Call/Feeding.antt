@@ -9,12 +9,12 @@ use Rattle.giop_types.specs.declared.interfaces.interface.Interface.{Interface}
 use Rattle.giop_end.specs.declared.session_fault.SessionFault.{SessionFault}
 use Rattle.giop_end.specs.Ends.View.{end_between}
 use Rattle.giop_end.specs.Pumping.{Between, between}
-use Rattle.giop_calling.specs.declared.call.calls.CallLine.{CallLine}
-use Rattle.giop_calling.specs.declared.call.feed.LineFeed.{LineFeed}
+use Rattle.giop_asked_calls.specs.declared.calls.CallLine.{CallLine}
+use Rattle.giop_asked_calls.specs.declared.feed.LineFeed.{LineFeed}
 use Rattle.giop_calling.specs.declared.call.given.Calling.{Calling}
 use Rattle.giop_forms.specs.declared.line_form.LineForm.{LineForm}
 use Rattle.giop_commands.specs.declared.session.ending.Ending.{Ending}
-use Rattle.giop_calling.specs.Call.Lines.{Feed, ReadsOn, feed_at}
+use Rattle.giop_asked_calls.specs.Lines.{Feed, ReadsOn, feed_at}
 use Rattle.giop_calling.specs.Call.Streaming.{CourseEnds, TurnTells, all_done, course, left_text, new_client, stream_status}
 use Rattle.giop_calling.specs.Call.Calling.{Asked, ClientCalls, ClientSide, asked_of}
 use Rattle.giop_commands.specs.Session.Endings.{Ends}

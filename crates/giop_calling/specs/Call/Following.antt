@@ -13,7 +13,7 @@ use Rattle.giop_types.specs.declared.interfaces.interface.Interface.{Interface}
 use Rattle.giop_end.specs.declared.session_fault.SessionFault.{SessionFault}
 use Rattle.giop_end.specs.Ends.View.{end_between}
 use Rattle.giop_end.specs.Pumping.{Between}
-use Rattle.giop_calling.specs.declared.call.calls.CallLine.{CallLine}
+use Rattle.giop_asked_calls.specs.declared.calls.CallLine.{CallLine}
 use Rattle.giop_calling.specs.declared.call.following.Forward.{Forward}
 use Rattle.giop_calling.specs.declared.call.given.Calling.{Calling}
 use Rattle.giop_forms.specs.declared.line_form.LineForm.{LineForm}

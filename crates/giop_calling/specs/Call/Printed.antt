@@ -12,7 +12,7 @@ use Rattle.giop_end.specs.declared.session_fault.SessionFault.{SessionFault}
 use Rattle.giop_table.specs.declared.slot.Slot.{Slot}
 use Rattle.giop_end.specs.Pumping.{between}
 use Rattle.giop_table.specs.Sending.{entry_of}
-use Rattle.giop_calling.specs.declared.call.calls.CallLine.{CallLine}
+use Rattle.giop_asked_calls.specs.declared.calls.CallLine.{CallLine}
 use Rattle.giop_calling.specs.declared.call.given.Calling.{Calling}
 use Rattle.giop_commands.specs.declared.session.given.Showing.{Showing}
 use Rattle.giop_forms.specs.declared.line_form.LineForm.{LineForm}

@@ -18,7 +18,7 @@ use Rattle.giop_end.specs.Ends.View.{end_between}
 use Rattle.giop_end.specs.Pumping.{Between, between}
 use Rattle.giop_call_lines.specs.SessionJson.{unsent_json}
 use Rattle.giop_call_lines.specs.TableLines.{unsent_line}
-use Rattle.giop_calling.specs.declared.call.calls.CallLine.{CallLine}
+use Rattle.giop_asked_calls.specs.declared.calls.CallLine.{CallLine}
 use Rattle.giop_calling.specs.declared.call.given.Calling.{Calling}
 use Rattle.giop_commands.specs.declared.session.SessionTurn.{SessionTurn}
 use Rattle.giop_commands.specs.declared.session.SessionTurn.TheVariants.{Ends, GoesOn as goes_on}

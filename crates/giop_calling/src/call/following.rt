@@ -11,11 +11,11 @@ ghost use Rattle.giop_calling.specs.Call.Printed.{is_well};
 ghost use Rattle.giop_commands.specs.Session.Printed.{told};
 ghost use Rattle.giop_end.specs.Ends.View.{IsTurned};
 
-use crate::call::calls::CallLine;
 use crate::call::given::Calling;
 use crate::call::streaming::stream_status;
 use crate::call::well::is_well;
 use crate::call::{call_all, talk};
+use giop_asked_calls::calls::CallLine;
 use giop_calls::{ClientEntry, ClientRule};
 use giop_commands::session::given::Showing;
 use giop_commands::session::table::Tabled;

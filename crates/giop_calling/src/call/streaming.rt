@@ -13,10 +13,10 @@ ghost use Rattle.giop_commands.specs.Session.Traffic.{traffic};
 pub mod feeding;
 mod turns;
 
-use crate::call::calls::CallLine;
 use crate::call::given::Calling;
 use crate::call::streaming::turns::turn_of_calls;
 use crate::call::well::all_well;
+use giop_asked_calls::calls::CallLine;
 use giop_call_lines::{UnsentJson, UnsentLine};
 use giop_commands::session::ending::{Ending, ending_of};
 use giop_commands::session::faults::broken::broken_status;

@@ -1,8 +1,8 @@
 //! `check` over files and the standard output. What it prints is giop_commands' check.rt, over any
 //! reader and writer.
 
-use crate::commands::sending::limits_of;
 use giop_commands::{Checking, check_stream, check_text};
+use giop_connections::sending::limits_of;
 use giop_files::files::OUTPUT_BUFFER;
 use giop_files::files::interfaces::{By, Joined, join_offers, read_each};
 use giop_files::report::texts;

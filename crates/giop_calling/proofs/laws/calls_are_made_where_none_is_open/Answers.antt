@@ -2,7 +2,7 @@ use Rattle.std.proofs.Common.{◌≡◌, ◌==◌, ◌&&◌, ℕ, nat_lt, Bool, 
 use Rattle.std.specs.FinMap as finite
 use Rattle.giop_end.specs.declared.limits.Limits.{Limits}
 use Rattle.giop_commands.specs.Session.Acts.{Outbox}
-use Rattle.giop_calling.specs.declared.call.calls.CallLine.{CallLine}
+use Rattle.giop_asked_calls.specs.declared.calls.CallLine.{CallLine}
 use Rattle.giop_calling.specs.Call.Calling.{ClientCalls, entry_at}
 use Rattle.giop_calling.specs.Call.Streaming.{is_vacant, most_outgoing, next_has_room}
 use Rattle.giop_calling.proofs.laws.calls_are_made_where_none_is_open.Goals as goal

@@ -4,14 +4,14 @@
 ghost use Rattle.std.specs.Prelude.{◌≡◌, ◌&&◌, None, IfOk, OnOk};
 ghost use Rattle.giop_calling.specs.Call.Calling.{IsNew};
 ghost use Rattle.giop_calling.specs.Call.Feeding.{FedEndOver, FedOver, Feeds, feeding};
-ghost use Rattle.giop_calling.specs.Call.Lines.{feed_at};
+ghost use Rattle.giop_asked_calls.specs.Lines.{feed_at};
 ghost use Rattle.giop_commands.specs.Session.Traffic.{traffic};
 
-use crate::call::feed::LineFeed;
 use crate::call::given::Calling;
-use crate::call::lines::CallLines;
 use crate::call::streaming::turns::turn_of_calls;
 use crate::call::streaming::{tell_end, tell_open};
+use giop_asked_calls::feed::LineFeed;
+use giop_asked_calls::lines::CallLines;
 use giop_commands::session::ending::Ending;
 use giop_commands::session::given::{Pipes, Showing};
 use giop_commands::session::{SessionTurn, TURNS};

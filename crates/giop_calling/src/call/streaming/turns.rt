@@ -13,9 +13,9 @@ ghost use Rattle.giop_commands.specs.Session.Tables.Table.{client_entry_in};
 ghost use Rattle.giop_commands.specs.Session.Traffic.{traffic};
 
 use crate::call::call_one;
-use crate::call::calls::CallLine;
 use crate::call::given::Calling;
 use crate::call::well::{all_over_well, are_over};
+use giop_asked_calls::calls::CallLine;
 use giop_commands::session::given::{Pipes, Showing};
 use giop_commands::session::sending::send_all;
 use giop_commands::session::streaming::tell_over;

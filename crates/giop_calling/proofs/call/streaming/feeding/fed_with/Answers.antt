@@ -1,5 +1,5 @@
 use Rattle.std.proofs.Common.{[]}
-use Rattle.giop_calling.specs.Call.Lines.{feed, so_far}
+use Rattle.giop_asked_calls.specs.Lines.{feed, so_far}
 use Rattle.giop_calling.specs.Call.Calling.{asked_of}
 use Rattle.giop_commands.specs.Session.Printed.{wire}
 use Rattle.giop_calling.proofs.OnCall.FeedingLemmas.{is_fed}

@@ -1,7 +1,7 @@
 use Rattle.std.proofs.Common.{◌∙◌, []}
 use Rattle.giop_end.specs.Ends.View.{end_between}
 use Rattle.giop_calling.specs.Call.Feeding.{fed_of}
-use Rattle.giop_calling.specs.Call.Lines.{feed_at}
+use Rattle.giop_asked_calls.specs.Lines.{feed_at}
 use Rattle.giop_calling.specs.Call.Calling.{asked_of}
 use Rattle.giop_commands.proofs.OnSession.ActLemmas.{turned_on}
 use Rattle.giop_calling.proofs.OnCall.FeedingLemmas.{fed_ends, fed_streams, fed_turn}

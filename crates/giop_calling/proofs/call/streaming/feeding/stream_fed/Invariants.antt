@@ -1,7 +1,7 @@
 use Rattle.std.proofs.Common.{◌≡◌, [], None}
 use Rattle.giop_end.specs.Ends.View.{IsTurned}
 use Rattle.giop_calling.specs.Call.Feeding.{FedTurn, fed_of}
-use Rattle.giop_calling.specs.Call.Lines.{feed_at}
+use Rattle.giop_asked_calls.specs.Lines.{feed_at}
 use Rattle.giop_calling.specs.Call.Calling.{asked_of}
 use Rattle.giop_commands.proofs.OnSession.StepLemmas.{Counted}
 use Rattle.giop_calling.proofs.call.streaming.feeding.stream_fed.Given as goal

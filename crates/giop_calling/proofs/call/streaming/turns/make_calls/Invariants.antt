@@ -1,5 +1,5 @@
 use Rattle.std.proofs.Common.{◌≡◌, None, List}
-use Rattle.giop_calling.specs.declared.call.calls.CallLine.{CallLine}
+use Rattle.giop_asked_calls.specs.declared.calls.CallLine.{CallLine}
 use Rattle.giop_commands.specs.Session.Acts.{outbox}
 use Rattle.giop_calling.specs.Call.Calling.{asked_of}
 use Rattle.giop_calling.specs.Call.Streaming.{MakesOne}
