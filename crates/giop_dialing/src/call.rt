@@ -1,6 +1,8 @@
 //! `call` over files, a connection and the standard output. What it sends, reads and prints is
 //! giop_calling's call.rt, over any reader and writer.
-ghost use Rattle.std.specs.Prelude.{◌≡◌};
+ghost use Rattle.std.specs.Prelude.{◌≡◌, IfOk, IfErr, ◌≢◌};
+ghost use Rattle.giop_show.specs.Status.{status_number};
+ghost use Rattle.giop_connections.specs.Carried.{IsCarriedOut};
 
 mod asked;
 mod following;
@@ -35,14 +37,21 @@ pub struct Object<'a> {
 /// Reads the file of the interface and that of the calls, connects to where the target says, and
 /// calls. What is refused is reported before anything is connected: the target, the interface, the
 /// calls, in this order.
-pub fn call(rt: &HostRuntime, words: CallWords) -> Status {
+#[tactic(auto, using(giop_connections::proofs::CarriedLemmas::carried_number))]
+pub fn call(rt: &HostRuntime, words: CallWords) -> Status
+    ensures { status_number result ≢ 2 }
+{
     match try_call(rt, words) {
         Ok(status) => status,
         Err(status) => status,
     }
 }
 
-fn try_call(rt: &HostRuntime, words: CallWords) -> Result<Status, Status> {
+#[tactic(auto, using(giop_connections::proofs::CarriedLemmas::failed_carried))]
+fn try_call(rt: &HostRuntime, words: CallWords) -> Result<Status, Status>
+    ensures ok { IfOk result IsCarriedOut }
+    ensures err { IfErr result IsCarriedOut }
+{
     let target = target_text(rt, words.target)?;
     let offered = read_each(rt, words.interfaces.as_slice())?;
     let asked = asked_in(rt, &words, offered.as_slice())?;
@@ -50,13 +59,17 @@ fn try_call(rt: &HostRuntime, words: CallWords) -> Result<Status, Status> {
 }
 
 // Makes calls at the object of a target's text, which offers one of these.
+#[tactic(auto, using(giop_connections::proofs::CarriedLemmas::refused_carried))]
 fn call_asked(
     rt: &HostRuntime,
     words: &CallWords<'_>,
     target: &[u8],
     offered: &[Offered<'_>],
     asked: Asked,
-) -> Result<Status, Status> {
+) -> Result<Status, Status>
+    ensures ok { IfOk result IsCarriedOut }
+    ensures err { IfErr result IsCarriedOut }
+{
     let endpoint = endpoint_of(rt, words.lines, words.target, target)?;
     interface_of_each(rt, words.lines, offered)?;
     let (interface, text) = object_of(rt, offered, endpoint.key.as_slice())?;
@@ -74,13 +87,17 @@ fn call_asked(
 }
 
 // Makes calls that are given at once, in one session.
+#[tactic(auto, using(giop_connections::proofs::CarriedLemmas::ended_carried))]
 fn call_given(
     rt: &HostRuntime,
     words: &CallWords<'_>,
     object: Object<'_>,
     given: &Given,
     endpoint: &Endpoint,
-) -> Result<Status, Status> {
+) -> Result<Status, Status>
+    ensures ok { IfOk result IsCarriedOut }
+    ensures err { IfErr result IsCarriedOut }
+{
     let calls = calls_given(rt, words, object, given)?;
     let peer = peer_of(rt, words.target, endpoint)?;
     let calling = calling_of(words, object.interface, endpoint);
@@ -93,7 +110,9 @@ fn object_of<'b>(
     rt: &HostRuntime,
     offered: &'b [Offered<'_>],
     key: &[u8],
-) -> Result<(Interface, &'b [u8]), Status> {
+) -> Result<(Interface, &'b [u8]), Status>
+    ensures { IfErr result IsCarriedOut }
+{
     let text = match own_of(offered, key) {
         Some(one) => one.text.as_slice(),
         None => NOTHING,

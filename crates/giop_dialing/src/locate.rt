@@ -1,5 +1,8 @@
 //! `locate` over a connection and the standard output. It sends a LocateRequest (CORBA 3.3 Part 2,
 //! 9.4.5). What is sent and told is giop_calling's call/locating.rt.
+ghost use Rattle.std.specs.Prelude.{IfOk, IfErr, ◌≢◌};
+ghost use Rattle.giop_show.specs.Status.{status_number};
+ghost use Rattle.giop_connections.specs.Carried.{IsCarriedOut};
 
 mod following;
 
@@ -22,7 +25,10 @@ use std::io::{BufWriter, Write};
 /// Connects to where the target says, and asks where the object is; where forwards are followed, up
 /// to five times more where it is said to be. A refused target is reported before anything is
 /// connected.
-pub fn locate(rt: &HostRuntime, words: ObjectWords) -> Status {
+#[tactic(auto, using(giop_connections::proofs::CarriedLemmas::carried_number))]
+pub fn locate(rt: &HostRuntime, words: ObjectWords) -> Status
+    ensures { status_number result ≢ 2 }
+{
     let status = if words.follow {
         locate_and_follow(rt, words)
     } else {
@@ -34,7 +40,11 @@ pub fn locate(rt: &HostRuntime, words: ObjectWords) -> Status {
     }
 }
 
-fn locate_once(rt: &HostRuntime, words: ObjectWords) -> Result<Status, Status> {
+#[tactic(auto, using(giop_connections::proofs::CarriedLemmas::ended_carried))]
+fn locate_once(rt: &HostRuntime, words: ObjectWords) -> Result<Status, Status>
+    ensures ok { IfOk result IsCarriedOut }
+    ensures err { IfErr result IsCarriedOut }
+{
     let text = target_text(rt, words.target)?;
     let endpoint = endpoint_of(rt, words.lines, words.target, text.as_slice())?;
     let peer = peer_of(rt, words.target, &endpoint)?;
@@ -43,18 +53,23 @@ fn locate_once(rt: &HostRuntime, words: ObjectWords) -> Result<Status, Status> {
 }
 
 // Asks over a connection, and writes what came of it.
-fn ask(rt: &HostRuntime, endpoint: &Endpoint, words: ObjectWords) -> Result<Ending, Failure> {
+fn ask(rt: &HostRuntime, endpoint: &Endpoint, words: ObjectWords) -> Result<Ending, Failure>
+    ensures { IfOk result (λ ending. IsCarriedOut ending.status) }
+{
     let interface = object_interface(rt.alloc())?;
     ask_by(rt, endpoint, words, &interface)
 }
 
 // Asks by the interface of any object.
+#[tactic(auto, using(crate::proofs::CarriedLemmas::locates_carried))]
 fn ask_by(
     rt: &HostRuntime,
     endpoint: &Endpoint,
     words: ObjectWords,
     interface: &Interface,
-) -> Result<Ending, Failure> {
+) -> Result<Ending, Failure>
+    ensures { IfOk result (λ ending. IsCarriedOut ending.status) }
+{
     let calling = calling_at(words, interface, endpoint, Limits::default());
     let link = connect(rt, endpoint, words.timeout)?;
     let out = BufWriter::with_capacity(rt.alloc(), OUTPUT_BUFFER, io::writer(rt))?;

@@ -1,6 +1,9 @@
 //! `ping` over a connection and the standard output. It calls `_non_existent`, the operation by
 //! which a client asks whether an object is there (CORBA 3.3 Part 2, 9.4.2.1), and tells how long
 //! that took.
+ghost use Rattle.std.specs.Prelude.{IfOk, IfErr, ◌≢◌};
+ghost use Rattle.giop_show.specs.Status.{status_number};
+ghost use Rattle.giop_connections.specs.Carried.{IsCarriedOut};
 
 use crate::object::{NON_EXISTENT, calling_at, object_interface};
 use crate::session::call_at;
@@ -16,14 +19,21 @@ use std::time::Instant;
 
 /// Connects to where the target says, asks the object whether it is there, and tells how long that
 /// took. A refused target is reported before anything is connected.
-pub fn ping(rt: &HostRuntime, words: ObjectWords) -> Status {
+#[tactic(auto, using(giop_connections::proofs::CarriedLemmas::carried_number))]
+pub fn ping(rt: &HostRuntime, words: ObjectWords) -> Status
+    ensures { status_number result ≢ 2 }
+{
     match try_ping(rt, words) {
         Ok(status) => status,
         Err(status) => status,
     }
 }
 
-fn try_ping(rt: &HostRuntime, words: ObjectWords) -> Result<Status, Status> {
+#[tactic(auto, using(giop_connections::proofs::CarriedLemmas::ended_carried))]
+fn try_ping(rt: &HostRuntime, words: ObjectWords) -> Result<Status, Status>
+    ensures ok { IfOk result IsCarriedOut }
+    ensures err { IfErr result IsCarriedOut }
+{
     let text = target_text(rt, words.target)?;
     let endpoint = endpoint_of(rt, words.lines, words.target, text.as_slice())?;
     let peer = peer_of(rt, words.target, &endpoint)?;
@@ -38,7 +48,9 @@ fn try_ping(rt: &HostRuntime, words: ObjectWords) -> Result<Status, Status> {
 }
 
 // Asks over a connection, and writes what came of it.
-fn ask(rt: &HostRuntime, endpoint: &Endpoint, words: ObjectWords) -> Result<Ending, Failure> {
+fn ask(rt: &HostRuntime, endpoint: &Endpoint, words: ObjectWords) -> Result<Ending, Failure>
+    ensures { IfOk result (λ ending. IsCarriedOut ending.status) }
+{
     let interface = object_interface(rt.alloc())?;
     let Ok(calls) = call_from_words(rt.alloc(), &interface, NON_EXISTENT, Vec::new(rt.alloc()))
     else {

@@ -1,4 +1,6 @@
 //! A session of calls that are given at once, over a connection of its own.
+ghost use Rattle.std.specs.Prelude.{IfOk};
+ghost use Rattle.giop_connections.specs.Carried.{IsCarriedOut};
 
 use giop_asked_calls::calls::CallLine;
 use giop_calling::call::streaming::call_stream;
@@ -22,7 +24,9 @@ pub(crate) fn call_at(
     telling: Telling,
     calling: Calling<'_>,
     calls: Vec<CallLine>,
-) -> Result<Ending, Failure> {
+) -> Result<Ending, Failure>
+    ensures { IfOk result (λ ending. IsCarriedOut ending.status) }
+{
     let link = connect(rt, endpoint, timeout)?;
     let out = BufWriter::with_capacity(rt.alloc(), OUTPUT_BUFFER, io::writer(rt))?;
     let mut pipes = Pipes {
@@ -34,13 +38,16 @@ pub(crate) fn call_at(
 }
 
 // Makes calls over pipes, and has all that is told written.
+#[tactic(auto, using(crate::proofs::CarriedLemmas::calls_carried, crate::proofs::CarriedLemmas::calls_stream_carried))]
 fn call_by<R: Read, W: Write, O: Write>(
     alloc: Global,
     telling: Telling,
     calling: Calling<'_>,
     calls: Vec<CallLine>,
     pipes: &mut Pipes<R, W, O>,
-) -> Result<Ending, Failure> {
+) -> Result<Ending, Failure>
+    ensures { IfOk result (λ ending. IsCarriedOut ending.status) }
+{
     let ending = match telling {
         Telling::AtTheEnd => call_over(alloc, calling, calls, pipes)?,
         Telling::WhenOver => call_stream(alloc, calling, calls, pipes)?,

@@ -1,4 +1,6 @@
 //! The target of a command: the object that is called, and where it is reached.
+ghost use Rattle.std.specs.Prelude.{IfErr};
+ghost use Rattle.giop_connections.specs.Carried.{IsCarriedOut};
 
 use giop_commands::{Endpoint, Targeted, target_of};
 use giop_files::files::read_or_report;
@@ -12,7 +14,10 @@ use giop_show::unended;
 
 /// The text of a target: itself, or behind `@` that of a file, of which a newline at the end is
 /// dropped.
-pub(crate) fn target_text(rt: &HostRuntime, target: &str) -> Result<Vec<u8>, Status> {
+#[tactic(auto, using(giop_connections::proofs::CarriedLemmas::failed_carried))]
+pub(crate) fn target_text(rt: &HostRuntime, target: &str) -> Result<Vec<u8>, Status>
+    ensures { IfErr result IsCarriedOut }
+{
     let text = match target.strip_prefix('@') {
         Some(file) => Vec::from_slice(rt.alloc(), unended(read_or_report(rt, file)?.as_slice())),
         None => Vec::from_slice(rt.alloc(), target.as_bytes()),
@@ -24,12 +29,15 @@ pub(crate) fn target_text(rt: &HostRuntime, target: &str) -> Result<Vec<u8>, Sta
 }
 
 /// The object of a target's text. Where the text is refused, its line is written in a form.
+#[tactic(auto, using(giop_connections::proofs::CarriedLemmas::refused_carried, giop_connections::proofs::CarriedLemmas::failure_carried))]
 pub(crate) fn endpoint_of(
     rt: &HostRuntime,
     lines: LineForm,
     target: &str,
     text: &[u8],
-) -> Result<Endpoint, Status> {
+) -> Result<Endpoint, Status>
+    ensures { IfErr result IsCarriedOut }
+{
     match target_of(rt.alloc(), text) {
         Ok(Targeted::At(endpoint)) => Ok(endpoint),
         Ok(Targeted::Refused(line)) => Err(refuse(rt, lines, line)),
@@ -38,11 +46,9 @@ pub(crate) fn endpoint_of(
 }
 
 /// The name of a peer, as standard error has it: `HOST:PORT`.
-pub(crate) fn peer_of(
-    rt: &HostRuntime,
-    target: &str,
-    endpoint: &Endpoint,
-) -> Result<String, Status> {
+pub(crate) fn peer_of(rt: &HostRuntime, target: &str, endpoint: &Endpoint) -> Result<String, Status>
+    ensures { IfErr result IsCarriedOut }
+{
     let host = EscapedText(endpoint.host.as_slice());
     match format!(in rt.alloc(); "{host}:{}", endpoint.port) {
         Ok(peer) => Ok(peer),

@@ -1,4 +1,6 @@
 //! Where the calls of `call` stand: in a file or in words.
+ghost use Rattle.std.specs.Prelude.{IfErr};
+ghost use Rattle.giop_connections.specs.Carried.{IsCarriedOut};
 
 use crate::call::Object;
 use giop_asked_calls::calls::{CallLine, calls_from_json};
@@ -35,11 +37,14 @@ pub enum Given {
 /// Where the calls stand, or the status where their file can't be read, which is reported. One word
 /// is the name of a file, unless there is none and one of these interfaces has an operation of that
 /// name.
+#[tactic(auto, using(giop_connections::proofs::CarriedLemmas::failure_carried))]
 pub(super) fn asked_in(
     rt: &HostRuntime,
     words: &CallWords<'_>,
     offered: &[Offered<'_>],
-) -> Result<Asked, Status> {
+) -> Result<Asked, Status>
+    ensures { IfErr result IsCarriedOut }
+{
     if !words.values.is_empty() {
         return Ok(Asked::Given(Given::Words));
     }
@@ -93,7 +98,9 @@ pub(super) fn calls_given(
     words: &CallWords<'_>,
     object: Object<'_>,
     given: &Given,
-) -> Result<Vec<CallLine>, Status> {
+) -> Result<Vec<CallLine>, Status>
+    ensures { IfErr result IsCarriedOut }
+{
     match given {
         Given::File(text) => calls_in_file(rt, words, object, text.as_slice()),
         Given::Words => calls_in_words(rt, words, object),
@@ -101,12 +108,15 @@ pub(super) fn calls_given(
 }
 
 // The calls of a file, or the status where they are refused, which is reported.
+#[tactic(auto, using(giop_connections::proofs::CarriedLemmas::refused_carried))]
 fn calls_in_file(
     rt: &HostRuntime,
     words: &CallWords<'_>,
     object: Object<'_>,
     text: &[u8],
-) -> Result<Vec<CallLine>, Status> {
+) -> Result<Vec<CallLine>, Status>
+    ensures { IfErr result IsCarriedOut }
+{
     match calls_from_json(rt.alloc(), object.interface, text) {
         Ok(calls) => Ok(calls),
         Err(fault) => {
@@ -117,11 +127,14 @@ fn calls_in_file(
 }
 
 // The call that words ask for, or the status where it is refused, which is reported.
+#[tactic(auto, using(giop_connections::proofs::CarriedLemmas::refused_carried))]
 fn calls_in_words(
     rt: &HostRuntime,
     words: &CallWords<'_>,
     object: Object<'_>,
-) -> Result<Vec<CallLine>, Status> {
+) -> Result<Vec<CallLine>, Status>
+    ensures { IfErr result IsCarriedOut }
+{
     let (name, values) = (words.file, words.values.as_slice());
     let calls = match each_json(rt.alloc(), values) {
         Ok(ins) => call_from_words(rt.alloc(), object.interface, name, ins),

@@ -1,6 +1,7 @@
 //! `call --follow`: calls that are forwarded are made again where the reference says, over a
 //! connection of their own. What is sent and told is giop_calling's call/following.rt.
-ghost use Rattle.std.specs.Prelude.{◌≡◌};
+ghost use Rattle.std.specs.Prelude.{◌≡◌, IfOk, IfErr};
+ghost use Rattle.giop_connections.specs.Carried.{IsCarriedOut};
 
 use crate::call::asked::{Given, calls_given};
 use crate::call::{Object, calling_of};
@@ -57,7 +58,10 @@ pub(super) fn call_and_follow(
     object: Object<'_>,
     given: &Given,
     endpoint: &Endpoint,
-) -> Result<Status, Status> {
+) -> Result<Status, Status>
+    ensures ok { IfOk result IsCarriedOut }
+    ensures err { IfErr result IsCarriedOut }
+{
     let calls = calls_given(rt, words, object, given)?;
     let mut sessions = Sessions {
         ends: Vec::new(rt.alloc()),
@@ -77,11 +81,14 @@ pub(super) fn call_and_follow(
 }
 
 // The calls that are to be made again; none where no session may follow.
+#[tactic(auto, using(giop_connections::proofs::CarriedLemmas::failure_carried))]
 fn forwards_in(
     rt: &HostRuntime,
     words: &CallWords<'_>,
     sessions: &Sessions<'_>,
-) -> Result<Vec<Forward>, Status> {
+) -> Result<Vec<Forward>, Status>
+    ensures { IfErr result IsCarriedOut }
+{
     if !sessions.may_go_on() {
         return Ok(Vec::new(rt.alloc()));
     }
@@ -99,7 +106,9 @@ fn follow<'a>(
     given: &Given,
     mut forwards: Vec<Forward>,
     sessions: &mut Sessions<'a>,
-) -> Result<(), Status> {
+) -> Result<(), Status>
+    ensures { IfErr result IsCarriedOut }
+{
     for _ in 0..u64::MAX {
         if forwards.is_empty() || !sessions.may_go_on() {
             return Ok(());
@@ -141,7 +150,9 @@ fn session_at<'a>(
     endpoint: &Endpoint,
     calls: Vec<CallLine>,
     sessions: &mut Sessions<'a>,
-) -> Result<(), Status> {
+) -> Result<(), Status>
+    ensures { IfErr result IsCarriedOut }
+{
     let calling = calling_of(words, interface, endpoint);
     let mut end = ClientEnd::new(rt.alloc(), interface, calling.limits);
     let called = call_by(rt, words, endpoint, calling, calls, &mut end, sessions);
@@ -171,6 +182,7 @@ fn call_by(
 ) -> Result<(), Status>
     requires interface { end.old.interface.now ≡ calling.interface.now }
     requires limits { end.old.limits ≡ calling.limits }
+    ensures { IfErr result IsCarriedOut }
 {
     let peer = peer_of(rt, words.target, endpoint)?;
     match call_in_session(rt, words, endpoint, calling, calls, end) {
@@ -185,7 +197,9 @@ fn call_by(
 }
 
 // That it is out of memory.
-fn out_of_memory(rt: &HostRuntime, words: &CallWords<'_>) -> Status {
+fn out_of_memory(rt: &HostRuntime, words: &CallWords<'_>) -> Status
+    ensures { IsCarriedOut result }
+{
     report::status_of(rt, words.target, Err(Failure::Memory))
 }
 
@@ -206,13 +220,16 @@ fn call_in_session(
 }
 
 // Prints which calls are open where a session ended without a fault.
+#[tactic(auto, using(giop_connections::proofs::CarriedLemmas::ended_carried))]
 fn print_open_calls(
     rt: &HostRuntime,
     words: &CallWords<'_>,
     peer: &str,
     end: &ClientEnd<'_>,
     refused: Option<SessionFault>,
-) -> Result<(), Status> {
+) -> Result<(), Status>
+    ensures { IfErr result IsCarriedOut }
+{
     let ended = match ending_of(rt.alloc(), end, told(refused, end.fault()), Status::Done) {
         Ok(ending) => Ok(ending),
         Err(_) => Err(Failure::Memory),
@@ -249,12 +266,15 @@ fn print_forward(rt: &HostRuntime, id: u32, to: &Endpoint, behind: &str) {
 }
 
 // Tells what all calls came to, and what failed.
+#[tactic(auto, using(giop_connections::proofs::CarriedLemmas::failure_carried, giop_connections::proofs::CarriedLemmas::ended_carried))]
 fn tell_calls(
     rt: &HostRuntime,
     words: &CallWords<'_>,
     interface: &Interface,
     sessions: Sessions<'_>,
-) -> Status {
+) -> Status
+    ensures { IsCarriedOut result }
+{
     let status = match tell_sessions(rt, words, interface, &sessions) {
         Ok(status) => status,
         Err(failure) => return report::status_of(rt, words.target, Err(failure)),
@@ -273,12 +293,15 @@ fn tell_calls(
 }
 
 // Tells what all calls came to.
+#[tactic(auto, using(crate::proofs::CarriedLemmas::stream_carried))]
 fn tell_sessions(
     rt: &HostRuntime,
     words: &CallWords<'_>,
     interface: &Interface,
     sessions: &Sessions<'_>,
-) -> Result<Status, Failure> {
+) -> Result<Status, Failure>
+    ensures { IfOk result IsCarriedOut }
+{
     let mut out = BufWriter::with_capacity(rt.alloc(), OUTPUT_BUFFER, io::writer(rt))?;
     let fault = match sessions.failed {
         Some(_) => None,

@@ -1,4 +1,6 @@
 //! `call` of a call a line, which are read as they are called.
+ghost use Rattle.std.specs.Prelude.{IfOk, IfErr};
+ghost use Rattle.giop_connections.specs.Carried.{IsCarriedOut};
 
 use crate::call::{Object, calling_of};
 use crate::target::peer_of;
@@ -22,13 +24,17 @@ use std::io::{BufWriter, Cursor, Read, Write};
 
 /// Makes the calls of the lines of a file. A line that is refused is reported behind all that was
 /// told.
+#[tactic(auto, using(giop_connections::proofs::CarriedLemmas::ended_carried))]
 pub(super) fn call_lines(
     rt: &HostRuntime,
     file: FileFront,
     object: Object<'_>,
     endpoint: &Endpoint,
     words: &CallWords<'_>,
-) -> Result<Status, Status> {
+) -> Result<Status, Status>
+    ensures ok { IfOk result IsCarriedOut }
+    ensures err { IfErr result IsCarriedOut }
+{
     let peer = peer_of(rt, words.target, endpoint)?;
     let source = Cursor::new(file.front).chain(file.rest);
     let mut feed = match LineFeed::new(rt.alloc(), source, file.waits) {
@@ -48,13 +54,16 @@ pub(super) fn call_lines(
     }
 }
 
+#[tactic(auto, using(crate::proofs::CarriedLemmas::fed_carried))]
 fn call_lines_at<S: Read + Drop>(
     rt: &HostRuntime,
     feed: &mut LineFeed<S>,
     endpoint: &Endpoint,
     words: &CallWords<'_>,
     calling: Calling<'_>,
-) -> Result<Ending, Failure> {
+) -> Result<Ending, Failure>
+    ensures { IfOk result (λ ending. IsCarriedOut ending.status) }
+{
     let link = connect(rt, endpoint, words.timeout)?;
     let out = BufWriter::with_capacity(rt.alloc(), OUTPUT_BUFFER, io::writer(rt))?;
     let mut pipes = Pipes {
@@ -68,6 +77,7 @@ fn call_lines_at<S: Read + Drop>(
 }
 
 // Reports the line that is refused, of a session with a status.
+#[tactic(auto, using(giop_connections::proofs::CarriedLemmas::refused_carried))]
 fn refuse_line(
     rt: &HostRuntime,
     words: &CallWords<'_>,
@@ -75,7 +85,10 @@ fn refuse_line(
     lines: &CallLines,
     fault: FormFault,
     status: Status,
-) -> Status {
+) -> Status
+    requires { IsCarriedOut status }
+    ensures { IsCarriedOut result }
+{
     let text = lines.line.as_slice();
     let at = of_call(rt.alloc(), offered, text, fault);
     let name = match format!(in rt.alloc(); "{} line {}", words.file, lines.count) {

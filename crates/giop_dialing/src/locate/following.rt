@@ -1,6 +1,7 @@
 //! `locate --follow`: an object that is elsewhere is asked for where the reference says, over a
 //! connection of its own. What is sent and told is giop_calling's call/locate_following.rt.
-ghost use Rattle.std.specs.Prelude.{◌≡◌};
+ghost use Rattle.std.specs.Prelude.{◌≡◌, IfOk, IfErr};
+ghost use Rattle.giop_connections.specs.Carried.{IsCarriedOut};
 ghost use Rattle.giop_commands.specs.Check.{AreLimits};
 
 use crate::forwards::{MOST_FORWARDS, place_text};
@@ -22,18 +23,13 @@ use giop_words::ObjectWords;
 use std::io;
 use std::io::{BufWriter, Write};
 
-// What a session came to.
-#[derive(Drop)]
-enum Outcome {
-    // The object is to be asked for there.
-    Elsewhere(Endpoint),
-    // It was told what the last session came to.
-    Told(Status),
-}
-
 /// Asks where the object is, and again where it is said to be. Tells what came of it where it was
 /// asked for last.
-pub(super) fn locate_and_follow(rt: &HostRuntime, words: ObjectWords) -> Result<Status, Status> {
+#[tactic(auto, using(giop_connections::proofs::CarriedLemmas::failure_carried))]
+pub(super) fn locate_and_follow(rt: &HostRuntime, words: ObjectWords) -> Result<Status, Status>
+    ensures ok { IfOk result IsCarriedOut }
+    ensures err { IfErr result IsCarriedOut }
+{
     let text = target_text(rt, words.target)?;
     let endpoint = endpoint_of(rt, words.lines, words.target, text.as_slice())?;
     match object_interface(rt.alloc()) {
@@ -48,38 +44,38 @@ fn follow(
     words: ObjectWords,
     interface: &Interface,
     first: Endpoint,
-) -> Result<Status, Status> {
+) -> Result<Status, Status>
+    ensures ok { IfOk result IsCarriedOut }
+    ensures err { IfErr result IsCarriedOut }
+{
     let mut endpoint = first;
     for _ in 0..MOST_FORWARDS {
-        match session_at(rt, words, interface, &endpoint, true)? {
-            Outcome::Elsewhere(to) => {
-                print_place(rt, &to, "");
-                endpoint = to;
-            }
-            Outcome::Told(status) => return Ok(status),
-        }
+        let to = session_at(rt, words, interface, &endpoint, true)?;
+        print_place(rt, &to, "");
+        endpoint = to;
     }
-    match session_at(rt, words, interface, &endpoint, false)? {
-        Outcome::Elsewhere(_) => Ok(Status::Refused),
-        Outcome::Told(status) => Ok(status),
-    }
+    session_at(rt, words, interface, &endpoint, false)?;
+    Ok(Status::Refused)
 }
 
-// Asks where the object is in a session with that of an endpoint. What it came to is told, but
-// where the object is to be asked for elsewhere, and may be.
+// Asks where the object is in a session with that of an endpoint. Returns where it is to be asked
+// for next, if it may be; else what the session came to is told, and its status returned.
 fn session_at(
     rt: &HostRuntime,
     words: ObjectWords,
     interface: &Interface,
     endpoint: &Endpoint,
     may_go_on: bool,
-) -> Result<Outcome, Status> {
+) -> Result<Endpoint, Status>
+    ensures { IfErr result IsCarriedOut }
+{
     let limits = Limits::default();
     let mut end = ClientEnd::new(rt.alloc(), interface, limits);
     ask_by(rt, words, interface, endpoint, limits, may_go_on, &mut end)
 }
 
 // Asks by an end.
+#[tactic(auto, using(giop_connections::proofs::CarriedLemmas::ended_carried, giop_connections::proofs::CarriedLemmas::failure_carried))]
 fn ask_by(
     rt: &HostRuntime,
     words: ObjectWords,
@@ -88,26 +84,22 @@ fn ask_by(
     limits: Limits,
     may_go_on: bool,
     end: &mut ClientEnd<'_>,
-) -> Result<Outcome, Status>
+) -> Result<Endpoint, Status>
     requires interface { end.old.interface.now ≡ interface.now }
     requires limits { end.old.limits ≡ limits }
     requires bounded { AreLimits limits }
+    ensures { IfErr result IsCarriedOut }
 {
     let peer = peer_of(rt, words.target, endpoint)?;
     let refused = match ask_at(rt, words, interface, endpoint, limits, end) {
         Ok(refused) => refused,
         Err(failure) => {
             let failed = tell_failure(rt, words, interface, end, failure);
-            return Ok(Outcome::Told(endings::call_status(
-                rt,
-                peer.as_str(),
-                words.timeout,
-                Err(failed),
-            )));
+            return Err(endings::call_status(rt, peer.as_str(), words.timeout, Err(failed)));
         }
     };
     match located_place(rt.alloc(), end) {
-        Ok(Some(to)) if may_go_on => return Ok(Outcome::Elsewhere(to)),
+        Ok(Some(to)) if may_go_on => return Ok(to),
         Ok(Some(to)) => print_place(
             rt,
             &to,
@@ -117,7 +109,7 @@ fn ask_by(
         Err(failure) => return Err(report::status_of(rt, words.target, Err(failure))),
     }
     let told = tell_answer(rt, words, interface, end, refused);
-    Ok(Outcome::Told(endings::call_status(rt, peer.as_str(), words.timeout, told)))
+    Err(endings::call_status(rt, peer.as_str(), words.timeout, told))
 }
 
 fn ask_at(
@@ -172,13 +164,16 @@ fn write_line(
 }
 
 // Writes what the LocateRequest came to.
+#[tactic(auto, using(crate::proofs::CarriedLemmas::locate_carried))]
 fn tell_answer(
     rt: &HostRuntime,
     words: ObjectWords,
     interface: &Interface,
     end: &ClientEnd<'_>,
     refused: Option<SessionFault>,
-) -> Result<Ending, Failure> {
+) -> Result<Ending, Failure>
+    ensures { IfOk result (λ ending. IsCarriedOut ending.status) }
+{
     let mut out = BufWriter::with_capacity(rt.alloc(), OUTPUT_BUFFER, io::writer(rt))?;
     let lines = words.lines;
     let showing = Showing { lines, interface };
