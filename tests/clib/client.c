@@ -25,8 +25,9 @@ static const uint8_t WHERE[25] = {
     'G', 'I', 'O', 'P', 1, 2, 0, 3, 0, 0, 0, 13, 0, 0, 0, 3, 0, 0, 0, 0, 0, 0, 0, 1, 'k'};
 static const uint8_t WHERE_BY_PROFILE[30] = {
     'G', 'I', 'O', 'P', 1, 2, 0, 3, 0, 0, 0, 18, 0, 0, 0, 3, 0, 1, 0, 0, 0, 0, 0, 0, 0, 0, 0, 2, 8, 9};
-/* A CancelRequest of 1.2, big endian, of id 1 (9.4.4). */
+/* CancelRequests of 1.2, big endian, of the ids 1 and 3 (9.4.4). */
 static const uint8_t CANCEL[16] = {'G', 'I', 'O', 'P', 1, 2, 0, 2, 0, 0, 0, 4, 0, 0, 0, 1};
+static const uint8_t CANCEL_WHERE[16] = {'G', 'I', 'O', 'P', 1, 2, 0, 2, 0, 0, 0, 4, 0, 0, 0, 3};
 
 /* The Reply to id 1 in 1.2, big endian: 7, at offset 24 (9.4.3). */
 static const uint8_t SEVEN[28] = {
@@ -109,7 +110,14 @@ static giop_client_entry entry_of(giop_client *client, uint32_t id) {
     return entry;
 }
 
+static int is_entry(giop_client_entry a, giop_client_entry b) {
+    return a.exception == b.exception && a.contexts == b.contexts && a.at == b.at && a.number == b.number
+        && a.left == b.left && a.status == b.status && a.minor == b.minor && a.completion == b.completion
+        && a.addressing == b.addressing && a.kind == b.kind && a.over == b.over && a.outcome == b.outcome;
+}
+
 static void a_call_is_answered(void) {
+    static const giop_client_entry replied = {.kind = GIOP_DONE, .over = 1, .outcome = GIOP_REPLIED};
     static const uint8_t big[4] = {0, 0, 0, 7}, little[4] = {7, 0, 0, 0};
     giop_client client = {0};
     giop_end_fault fault = UNWRITTEN;
@@ -136,7 +144,7 @@ static void a_call_is_answered(void) {
     CHECK(giop_client_ids(&client, NULL, 0, &size) == GIOP_OK && size == 1);
     entry = entry_of(&client, 1);
     CHECK(entry.kind == GIOP_DONE && entry.status == GIOP_NO_EXCEPTION && entry.outcome == GIOP_REPLIED);
-    CHECK(entry.over == 1 && entry.left == 0 && entry.exception == 0 && entry.minor == 0);
+    CHECK(is_entry(entry, replied));
     CHECK(giop_client_outs(&client, 1, 0, buffer, 3, &size) == GIOP_SMALL && size == 4);
     CHECK(giop_client_outs(&client, 1, 0, buffer, 4, &size) == GIOP_OK && memcmp(buffer, big, 4) == 0);
     CHECK(giop_client_outs(&client, 1, 1, buffer, 8, &size) == GIOP_OK && size == 4);
@@ -147,7 +155,7 @@ static void a_call_is_answered(void) {
     CHECK(giop_client_forward(&client, 1, buffer, 8, &size) == GIOP_WAITS && size == 99);
     CHECK(giop_client_take(&client, 1, &fault) == GIOP_OK && entry_of(&client, 1).kind == GIOP_NOTHING);
     giop_client_free(&client);
-    CHECK(blocks == 0);
+    CHECK(giop_client_wrote(&client, 0) == GIOP_CLOSED && blocks == 0);
 }
 
 static void a_call_is_answered_by_an_exception(void) {
@@ -162,7 +170,8 @@ static void a_call_is_answered_by_an_exception(void) {
     entry = entry_of(&client, 1);
     CHECK(entry.kind == GIOP_DONE && entry.status == GIOP_USER_EXCEPTION && entry.exception == 9);
     CHECK(giop_client_exception(&client, 1, buffer, 8, &size) == GIOP_SMALL && size == 9);
-    CHECK(giop_client_exception(&client, 1, buffer, 9, &size) == GIOP_OK && memcmp(buffer, "IDL:E:1.0", 9) == 0);
+    memset(buffer, 9, sizeof buffer);
+    CHECK(giop_client_exception(&client, 1, buffer, 9, &size) == GIOP_OK && memcmp(buffer, "IDL:E:1.0\11", 10) == 0);
     CHECK(giop_client_members(&client, 1, 0, buffer, 3, &size) == GIOP_SMALL && size == 4);
     CHECK(giop_client_members(&client, 1, 0, buffer, 32, &size) == GIOP_OK && memcmp(buffer, why, 4) == 0);
     CHECK(giop_client_outs(&client, 1, 0, buffer, 32, &size) == GIOP_WAITS);
@@ -186,7 +195,8 @@ static void other_replies_are_told_apart(void) {
     CHECK(opens(&client) == GIOP_OK && adds(&client, &FORM, &fault) == GIOP_OK);
     CHECK(giop_client_feed(&client, FORWARD, sizeof FORWARD, &fault) == GIOP_OK);
     entry = entry_of(&client, 1);
-    CHECK(entry.status == GIOP_LOCATION_FORWARD && entry.over == 1 && entry.exception == 0);
+    CHECK(entry.kind == GIOP_DONE && entry.status == GIOP_LOCATION_FORWARD && entry.over == 1 && entry.exception == 0);
+    CHECK(giop_client_members(&client, 1, 0, buffer, 40, &size) == GIOP_WAITS && size == 99);
     CHECK(giop_client_forward(&client, 1, buffer, 35, &size) == GIOP_SMALL && size == 36);
     CHECK(giop_client_forward(&client, 1, buffer, 36, &size) == GIOP_OK && memcmp(buffer, NOWHERE, 36) == 0);
     CHECK(adds(&client, &FORM, &fault) == GIOP_OK);
@@ -242,6 +252,7 @@ static void other_calls_are_told_apart(void) {
     CHECK(entry.kind == GIOP_LOCATE_DONE && entry.status == GIOP_OBJECT_HERE && entry.outcome == GIOP_LOCATED);
     CHECK(giop_client_locate(&client, 3, &by_profile, profile, 2, &FORM, &fault) == GIOP_OK);
     CHECK(sends(&client, WHERE_BY_PROFILE, sizeof WHERE_BY_PROFILE));
+    CHECK(giop_client_cancel(&client, 3, 0, &fault) == GIOP_OK && sends(&client, CANCEL_WHERE, sizeof CANCEL_WHERE));
     CHECK(adds(&client, &FORM, &fault) == GIOP_OK && sends(&client, ASK, sizeof ASK));
     CHECK(giop_client_cancel(&client, 1, 0, &fault) == GIOP_OK && sends(&client, CANCEL, sizeof CANCEL));
     entry = entry_of(&client, 1);
@@ -249,6 +260,20 @@ static void other_calls_are_told_apart(void) {
     CHECK(giop_client_feed(&client, SEVEN, sizeof SEVEN, &fault) == GIOP_OK && entry_of(&client, 1).over == 1);
     CHECK(giop_client_close(&client, &fault) == GIOP_OK && sends(&client, CLOSE, sizeof CLOSE));
     CHECK(giop_client_close(&client, &fault) == GIOP_FAULT && is(fault, GIOP_END_CLOSED, 0, 0, 0));
+    giop_client_free(&client);
+    CHECK(blocks == 0);
+}
+
+/* Behind an orderly close nothing is called, and no MessageError is due. */
+static void a_closed_end_answers_its_fault(void) {
+    giop_client client = {0};
+    giop_end_fault fault = UNWRITTEN;
+    uint8_t buffer[12];
+    size_t size = 99;
+    CHECK(opens(&client) == GIOP_OK);
+    CHECK(giop_client_close(&client, &fault) == GIOP_OK && is_unwritten(fault) && sends(&client, CLOSE, sizeof CLOSE));
+    CHECK(adds(&client, &FORM, &fault) == GIOP_FAULT && is(fault, GIOP_END_CLOSED, 0, 0, 0));
+    CHECK(giop_client_error_message(&client, buffer, 12, &size) == GIOP_WAITS && size == 99);
     giop_client_free(&client);
     CHECK(blocks == 0);
 }
@@ -292,6 +317,10 @@ static void a_refused_call_is_told_why(void) {
     CHECK(adds(&client, &bad, &fault) == GIOP_FAULT && is(fault, GIOP_END_FORM, 0, 0, 0));
     CHECK(giop_client_locate(&client, 1, &CALL, KEY, 1, &bad, &fault) == GIOP_FAULT);
     CHECK(is(fault, GIOP_END_FORM, 0, 0, 0));
+    CHECK(giop_client_send(&client, 1, &fault) == GIOP_FAULT);
+    CHECK(is(fault, GIOP_END_CALL, GIOP_CALL_NOTHING_TO_SEND, 1, 0));
+    CHECK(giop_client_call(&client, 1, &CALL, KEY, 1, NAME, 3, 1, INS, 3, &FORM, &fault) == GIOP_FAULT);
+    CHECK(is(fault, GIOP_END_VALUES, GIOP_CDR_SHORT, 0, 0));
     CHECK(giop_client_call(&client, 1, &CALL, KEY, 1, NAME, 3, 1, INS, 7, &FORM, &fault) == GIOP_FAULT);
     CHECK(is(fault, GIOP_END_VALUES, GIOP_CDR_SHORT, 0, 4));
     CHECK(giop_client_call(&client, 1, &CALL, KEY, 1, NAME, 3, 1, nine, 9, &FORM, &fault) == GIOP_FAULT);
@@ -309,6 +338,9 @@ static void a_refused_call_is_told_why(void) {
     CHECK(is(fault, GIOP_END_CALL, GIOP_CALL_ID_IN_USE, 1, 0));
     CHECK(giop_client_locate(&client, 1, &CALL, KEY, 1, &FORM, &fault) == GIOP_FAULT);
     CHECK(is(fault, GIOP_END_CALL, GIOP_CALL_ID_IN_USE, 1, 0) && sends(&client, ASK, sizeof ASK));
+    CHECK(giop_client_locate(&client, 2, &CALL, KEY, 1, &FORM, &fault) == GIOP_OK);
+    CHECK(giop_client_locate(&client, 2, &CALL, KEY, 1, &FORM, &fault) == GIOP_FAULT);
+    CHECK(is(fault, GIOP_END_CALL, GIOP_CALL_ID_IN_USE, 2, 0));
     giop_client_free(&client);
     CHECK(blocks == 0);
 }
@@ -409,6 +441,7 @@ int main(void) {
     other_calls_are_told_apart();
     a_call_goes_out_and_a_reply_comes_in_pieces();
     a_refused_call_is_told_why();
+    a_closed_end_answers_its_fault();
     a_fault_fails_the_end();
     a_closed_handle_answers_closed();
     each_allocation_may_be_refused();

@@ -41,31 +41,37 @@ static const struct refused {
     {"[]", GIOP_TEXT_BAD_SHAPE, 0},
     {"{\"operations\":{\"f\":{\"in\":[]}}}", GIOP_TEXT_BAD_SHAPE, 0},
     {"{\"operations\":{\"f\":{\"oneway\":true,\"outs\":[[\"r\",\"long\"]]}}}", GIOP_TEXT_BAD_SHAPE, 0},
+    /* a name that no type has, one that stands for itself, and an exception that isn't there */
+    {"{\"operations\":{\"f\":{\"ins\":[[\"a\",{\"type\":\"T\"}]]}}}", GIOP_TEXT_BAD_SHAPE, 0},
+    {"{\"types\":{\"T\":{\"type\":\"T\"}},\"operations\":{\"f\":{\"ins\":[[\"a\",{\"type\":\"T\"}]]}}}",
+     GIOP_TEXT_BAD_SHAPE, 0},
+    {"{\"operations\":{\"f\":{\"raises\":[\"IDL:E:1.0\"]}}}", GIOP_TEXT_BAD_SHAPE, 0},
     {"{\"operations\":{\"f\":{\"ins\":[[\"a\",{\"enum\":[]}]]}}}", GIOP_TEXT_BAD_DESCRIPTION, 1},
     {"{\"operations\":{\"f\":{\"ins\":[[\"a\",{\"enum\":[\"x\",\"x\"]}]]}}}", GIOP_TEXT_BAD_DESCRIPTION, 2},
 };
 
-/* A type of two members, of which one has a name itself; a name that no type has; one that stands for itself. */
+/* A type of two members, of which one has a name itself; an id, comments, and what is raised. */
 static void the_types_of_an_interface_have_names(void) {
-    static const char named[] = "{\"id\":\"IDL:P:1.0\",\"types\":{\"Point\":{\"struct\":[[\"x\",{\"type\":\"Half\"}],"
-                                "[\"y\",\"octet\"]]},\"Half\":\"short\"},\"operations\":{\"move\":{\"ins\":[[\"to\","
-                                "{\"type\":\"Point\"}]],\"comment\":\"there\"}}}";
-    static const char none[] = "{\"operations\":{\"f\":{\"ins\":[[\"a\",{\"type\":\"T\"}]]}}}";
-    static const char itself[] = "{\"types\":{\"T\":{\"type\":\"T\"}},\"operations\":{\"f\":{\"ins\":[[\"a\","
-                                 "{\"type\":\"T\"}]]}}}";
+    static const char named[] = "{\"id\":\"IDL:P:1.0\",\"comment\":\"points\",\"types\":{\"Point\":{\"struct\":"
+                                "[[\"x\",{\"type\":\"Half\"}],[\"y\",\"octet\"]]},\"Half\":\"short\"},\"operations\":"
+                                "{\"move\":{\"ins\":[[\"to\",{\"type\":\"Point\"}]],\"comment\":\"there\","
+                                "\"raises\":[\"IDL:E:1.0\"]}},\"exceptions\":{\"IDL:E:1.0\":[]}}";
+    static const char there[] = "[{\"x\":258,\"y\":3}]";
     static const uint8_t octets[3] = {1, 2, 3};
     giop_interface interface = {0};
     giop_text_fault fault;
     giop_end_fault wrong;
-    uint8_t text[32];
+    uint8_t text[32], copied[4] = {9, 9, 9, 9};
     size_t size;
-    CHECK(opens(&interface, none, &fault) == GIOP_FAULT && fault.number == GIOP_TEXT_BAD_SHAPE);
-    CHECK(opens(&interface, itself, &fault) == GIOP_FAULT && fault.number == GIOP_TEXT_BAD_SHAPE);
     CHECK(opens(&interface, named, &fault) == GIOP_OK && is_unwritten(fault));
     CHECK(giop_interface_convert(&interface, 0, (const uint8_t *)"move", 4, GIOP_BIG_ENDIAN, octets, 3, GIOP_JSON, text,
                                  sizeof text, &size, &wrong)
           == GIOP_OK);
-    CHECK(size == 17 && memcmp(text, "[{\"x\":258,\"y\":3}]", 17) == 0);
+    CHECK(size == 17 && memcmp(text, there, 17) == 0);
+    CHECK(giop_interface_convert(&interface, 0, (const uint8_t *)"move", 4, GIOP_JSON, (const uint8_t *)there, 17, 0,
+                                 copied, sizeof copied, &size, &wrong)
+          == GIOP_OK);
+    CHECK(size == 3 && memcmp(copied, octets, 3) == 0 && copied[3] == 9);
     giop_interface_free(&interface);
     CHECK(blocks == 0);
 }

@@ -97,8 +97,15 @@ static giop_server_entry entry_of(giop_server *server, uint32_t id) {
     return entry;
 }
 
+static int is_entry(giop_server_entry a, giop_server_entry b) {
+    return a.operation == b.operation && a.key == b.key && a.contexts == b.contexts && a.at == b.at
+        && a.number == b.number && a.left == b.left && a.status == b.status && a.part == b.part && a.kind == b.kind
+        && a.awaits == b.awaits && a.over == b.over && a.outcome == b.outcome && a.flags == b.flags;
+}
+
 static void a_request_is_heard_in_pieces(giop_server *server) {
     static const uint8_t big[8] = {0, 0, 0, 2, 0, 0, 0, 5}, little[8] = {2, 0, 0, 0, 5, 0, 0, 0};
+    static const giop_server_entry asked = {.operation = 3, .key = 1, .kind = GIOP_ASKED, .awaits = 1, .flags = 3};
     giop_end_fault fault = UNWRITTEN;
     giop_server_entry entry;
     uint8_t buffer[16];
@@ -112,14 +119,13 @@ static void a_request_is_heard_in_pieces(giop_server *server) {
     CHECK(is_unwritten(fault));
     CHECK(giop_server_ids(server, ids, 3, &size) == GIOP_OK && size == 1 && ids[0] == 1 && ids[1] == 99);
     entry = entry_of(server, 1);
-    CHECK(entry.kind == GIOP_ASKED && entry.awaits == 1 && entry.over == 0 && entry.flags == 3);
-    CHECK(entry.outcome == GIOP_PENDING && entry.left == 0 && entry.status == 0);
-    CHECK(entry.operation == 3 && entry.key == 1);
+    CHECK(is_entry(entry, asked) && asked.outcome == GIOP_PENDING);
     CHECK(giop_server_operation(server, 1, buffer, 2, &size) == GIOP_SMALL && size == 3);
     CHECK(giop_server_operation(server, 1, buffer, 3, &size) == GIOP_OK && memcmp(buffer, "add", 3) == 0);
     CHECK(giop_server_key(server, 1, buffer, 16, &size) == GIOP_OK && size == 1 && buffer[0] == 'k');
     size = 99;
     CHECK(giop_server_operation(server, 2, buffer, 16, &size) == GIOP_WAITS && size == 99);
+    CHECK(giop_server_key(server, 2, buffer, 16, &size) == GIOP_WAITS && size == 99);
     CHECK(giop_server_ins(server, 1, 0, buffer, 7, &size) == GIOP_SMALL && size == 8);
     CHECK(giop_server_ins(server, 1, 0, buffer, 8, &size) == GIOP_OK && memcmp(buffer, big, 8) == 0);
     CHECK(giop_server_ins(server, 1, 1, buffer, 16, &size) == GIOP_OK && size == 8);
@@ -143,6 +149,10 @@ static void a_request_is_answered(void) {
     CHECK(is(fault, GIOP_END_VALUES, GIOP_CDR_TRAILING, 0, 4));
     CHECK(giop_server_answer(&server, 9, 0, NULL, 0, &FORM, &fault) == GIOP_FAULT);
     CHECK(is(fault, GIOP_END_CALL, GIOP_CALL_NOT_OPEN, 9, 0));
+    CHECK(giop_server_answer_locate(&server, 1, 1, 0, &fault) == GIOP_FAULT);
+    CHECK(is(fault, GIOP_END_CALL, GIOP_CALL_WRONG_KIND, 1, 0));
+    CHECK(giop_server_send(&server, 1, &fault) == GIOP_FAULT);
+    CHECK(is(fault, GIOP_END_CALL, GIOP_CALL_NOTHING_TO_SEND, 1, 0));
     fault = UNWRITTEN;
     CHECK(giop_server_answer(&server, 1, 0, seven, 4, &FORM, &fault) == GIOP_OK && is_unwritten(fault));
     entry = entry_of(&server, 1);
@@ -154,11 +164,11 @@ static void a_request_is_answered(void) {
     CHECK(is(fault, GIOP_END_CALL, GIOP_CALL_NOTHING_TO_SEND, 1, 0));
     CHECK(giop_server_take(&server, 1, &fault) == GIOP_OK && entry_of(&server, 1).kind == GIOP_NOTHING);
     giop_server_free(&server);
-    CHECK(blocks == 0);
+    CHECK(giop_server_wrote(&server, 0) == GIOP_CLOSED && blocks == 0);
 }
 
 static void a_request_is_answered_by_an_exception(void) {
-    static const char id[] = "IDL:E:1.0", broker[] = "IDL:omg.org/CORBA/UNKNOWN:1.0";
+    static const char id[] = "IDL:E:1.0", broker[] = "IDL:omg.org/CORBA/UNKNOWN:1.0", other[] = "IDL:X:1.0";
     static const uint8_t why[4] = {0, 0, 1, 2};
     giop_server server = {0};
     giop_end_fault fault = UNWRITTEN;
@@ -174,12 +184,14 @@ static void a_request_is_answered_by_an_exception(void) {
     CHECK(giop_server_answer_system(&server, 1, (const uint8_t *)broker, 29, 3, 1, &FORM, &fault)
           == GIOP_OK);
     CHECK(entry_of(&server, 1).status == 2 && sends(&server, UNKNOWN, sizeof UNKNOWN));
+    CHECK(giop_server_feed(&server, ASK, sizeof ASK, &fault) == GIOP_OK);
+    CHECK(giop_server_answer_system(&server, 1, (const uint8_t *)other, 9, 3, 1, &FORM, &fault) == GIOP_OK);
     giop_server_free(&server);
     CHECK(blocks == 0);
 }
 
 static void a_request_is_answered_by_a_forward(void) {
-    static const char none[] = "IOR:0", wrong[] = "ior:0000000000000003";
+    static const char none[] = "IOR:0", order[] = "IOR:02", wrong[] = "ior:0000000000000003";
     giop_server server = {0};
     giop_end_fault fault = UNWRITTEN;
     giop_form bad = {20, 0};
@@ -194,14 +206,19 @@ static void a_request_is_answered_by_a_forward(void) {
     CHECK(is(fault, GIOP_END_TEXT, 1, 0, 0));
     CHECK(giop_server_answer_forward(&server, 1, (const uint8_t *)none, 5, 0, &FORM, &fault) == GIOP_FAULT);
     CHECK(is(fault, GIOP_END_TEXT, 2, 0, 0));
+    /* the first octet is 2, and no byte order */
+    CHECK(giop_server_answer_forward(&server, 1, (const uint8_t *)order, 6, 0, &FORM, &fault) == GIOP_FAULT);
+    CHECK(is(fault, GIOP_END_REFERENCE, GIOP_CDR_BAD_ORDER, 0, 0));
     /* the type id says at 4 that it has three octets, and there are none */
     CHECK(giop_server_answer_forward(&server, 1, (const uint8_t *)wrong, 20, 0, &FORM, &fault) == GIOP_FAULT);
     CHECK(is(fault, GIOP_END_REFERENCE, GIOP_CDR_BAD_COUNT, 0, 4));
     CHECK(entry_of(&server, 1).kind == GIOP_ASKED);
     CHECK(giop_server_answer_forward(&server, 1, (const uint8_t *)NOWHERE, 36, 0, &FORM, &fault) == GIOP_OK);
+    CHECK(entry_of(&server, 1).kind == GIOP_ANSWERED && entry_of(&server, 1).over == 1);
     CHECK(entry_of(&server, 1).status == 3 && sends(&server, FORWARD, sizeof FORWARD));
     CHECK(giop_server_feed(&server, ASK, sizeof ASK, &fault) == GIOP_OK);
     CHECK(giop_server_answer_forward(&server, 1, (const uint8_t *)NOWHERE, 36, 1, &FORM, &fault) == GIOP_OK);
+    CHECK(entry_of(&server, 1).kind == GIOP_ANSWERED);
     CHECK(entry_of(&server, 1).status == 4 && sends(&server, forever, sizeof forever));
     giop_server_free(&server);
     CHECK(blocks == 0);
@@ -306,6 +323,20 @@ static void other_calls_are_told_apart(void) {
     CHECK(entry.kind == GIOP_CANCELLED && entry.outcome == GIOP_WAS_CANCELLED && entry.over == 1);
     CHECK(giop_server_close(&server, &fault) == GIOP_OK && sends(&server, CLOSE, sizeof CLOSE));
     CHECK(giop_server_close(&server, &fault) == GIOP_FAULT && is(fault, GIOP_END_CLOSED, 0, 0, 0));
+    giop_server_free(&server);
+    CHECK(blocks == 0);
+}
+
+/* Behind an orderly close nothing is heard, and no MessageError is due. */
+static void a_closed_end_answers_its_fault(void) {
+    giop_server server = {0};
+    giop_end_fault fault = UNWRITTEN;
+    uint8_t buffer[12];
+    size_t size = 99;
+    CHECK(opens(&server) == GIOP_OK);
+    CHECK(giop_server_close(&server, &fault) == GIOP_OK && is_unwritten(fault) && sends(&server, CLOSE, sizeof CLOSE));
+    CHECK(giop_server_feed(&server, ASK, sizeof ASK, &fault) == GIOP_FAULT && is(fault, GIOP_END_CLOSED, 0, 0, 0));
+    CHECK(giop_server_error_message(&server, buffer, 12, &size) == GIOP_WAITS && size == 99);
     giop_server_free(&server);
     CHECK(blocks == 0);
 }
@@ -448,6 +479,7 @@ int main(void) {
     other_calls_are_told_apart();
     a_reply_goes_out_in_pieces();
     blocks_are_taken_for_pieces();
+    a_closed_end_answers_its_fault();
     a_fault_fails_the_end();
     a_closed_handle_answers_closed();
     each_allocation_may_be_refused();

@@ -60,6 +60,7 @@ static const struct value {
     {"none", " [ ] ", "[]", 0, 0, {0}},
     {"add", "[2,5]", "[2,5]", 0, 8, {0, 0, 0, 2, 0, 0, 0, 5}},
     {"add", "[2,\n5]", "[2,5]", 1, 8, {2, 0, 0, 0, 5, 0, 0, 0}},
+    {"add", "[-222,-555]", "[-222,-555]", 0, 8, {255, 255, 255, 34, 255, 255, 253, 213}},
     {"boolean", "[true]", "[true]", 0, 1, {1}},
     {"char", "[\"\\u0041\"]", "[\"A\"]", 0, 1, {65}},
     {"char", "[\"\\u00e9\"]", "[\"\xC3\xA9\"]", 0, 1, {0xE9}},
@@ -112,25 +113,32 @@ static const struct refused {
     uint32_t form, number, part;
 } REFUSED[] = {
     {"add", "", 0, 0, GIOP_JSON, GIOP_END_JSON, GIOP_TEXT_BAD_JSON},
+    {"add", "[2,5", 4, 0, GIOP_JSON, GIOP_END_JSON, GIOP_TEXT_BAD_JSON},
     {"add", "[2,5] 6", 7, 0, GIOP_JSON, GIOP_END_JSON, GIOP_TEXT_BAD_JSON},
     {"add", "[2,5\0]", 6, 0, GIOP_JSON, GIOP_END_JSON, GIOP_TEXT_BAD_JSON},
     {"add", "2", 1, 0, GIOP_JSON, GIOP_END_JSON, GIOP_TEXT_BAD_SHAPE},
+    {"add", "{\"a\":2,\"b\":5}", 13, 0, GIOP_JSON, GIOP_END_JSON, GIOP_TEXT_BAD_SHAPE},
+    {"add", "[2,\"a\"]", 7, 0, GIOP_JSON, GIOP_END_JSON, GIOP_TEXT_BAD_SHAPE},
     {"add", "[2,true]", 8, 0, GIOP_JSON, GIOP_END_JSON, GIOP_TEXT_BAD_SHAPE},
     {"add", "[2.5,5]", 7, 0, GIOP_JSON, GIOP_END_JSON, GIOP_TEXT_BAD_SHAPE},
     /* another form is told before what doesn't fit, wherever it stands */
     {"add", "[2147483648,true]", 17, 0, GIOP_JSON, GIOP_END_JSON, GIOP_TEXT_BAD_SHAPE},
+    {"add", "[2147483648,\"a\"]", 16, 0, GIOP_JSON, GIOP_END_JSON, GIOP_TEXT_BAD_SHAPE},
     {"add", "[2147483648,5]", 14, 0, GIOP_JSON, GIOP_END_JSON, GIOP_TEXT_UNFIT},
     {"add", "[2]", 3, 0, GIOP_JSON, GIOP_END_JSON, GIOP_TEXT_UNFIT},
     {"add", "[2,5,\"\"]", 8, 0, GIOP_JSON, GIOP_END_JSON, GIOP_TEXT_UNFIT},
     {"string", "[\"seven\"]", 9, 0, GIOP_JSON, GIOP_END_JSON, GIOP_TEXT_UNFIT},
+    {"add", "\0\0\0\2\0", 5, 4, GIOP_BIG_ENDIAN, GIOP_END_VALUES, GIOP_CDR_SHORT},
     {"add", "\0\0\0\2\0\0\0", 7, 4, GIOP_BIG_ENDIAN, GIOP_END_VALUES, GIOP_CDR_SHORT},
     {"boolean", "\2", 1, 0, GIOP_BIG_ENDIAN, GIOP_END_VALUES, GIOP_CDR_BAD_BOOLEAN},
     {"boolean", "\1\0", 2, 1, GIOP_LITTLE_ENDIAN, GIOP_END_VALUES, GIOP_CDR_TRAILING},
 };
 
+/* They are so of a conversion, and of the ins of a call. */
 static void what_is_refused_is_told(void) {
     giop_interface interface = {0};
-    CHECK(opens(&interface) == GIOP_OK);
+    giop_client client = {0};
+    CHECK(opens(&interface) == GIOP_OK && giop_client_new(&client, &interface, &LIMITS) == GIOP_OK);
     for (size_t i = 0; i < sizeof REFUSED / sizeof *REFUSED; i++) {
         const struct refused *r = &REFUSED[i];
         giop_end_fault fault = UNWRITTEN;
@@ -139,7 +147,12 @@ static void what_is_refused_is_told(void) {
         CHECK(converts(&interface, r->name, r->form, r->given, r->size, GIOP_JSON, buffer, 1, &size, &fault)
               == GIOP_FAULT);
         CHECK(is(fault, r->number, r->part, r->at) && size == 99 && buffer[0] == 9);
+        fault = UNWRITTEN;
+        CHECK(giop_client_call(&client, 1, &CALL, KEY, 1, (const uint8_t *)r->name, strlen(r->name), r->form,
+                               (const uint8_t *)r->given, r->size, &FORM, &fault) == GIOP_FAULT);
+        CHECK(is(fault, r->number, r->part, r->at));
     }
+    giop_client_free(&client);
     giop_interface_free(&interface);
 }
 
@@ -245,6 +258,8 @@ static void a_refused_text_changes_nothing(void) {
     CHECK(is(fault, GIOP_END_JSON, GIOP_TEXT_BAD_SHAPE, 0));
     CHECK(giop_server_answer_user(&server, 1, id, 9, 2, (const uint8_t *)"[", 1, &FORM, &fault) == GIOP_FAULT);
     CHECK(is(fault, GIOP_END_JSON, GIOP_TEXT_BAD_JSON, 0));
+    CHECK(giop_server_answer_user(&server, 1, id, 9, 2, (const uint8_t *)"[true]", 6, &FORM, &fault) == GIOP_FAULT);
+    CHECK(is(fault, GIOP_END_JSON, GIOP_TEXT_BAD_SHAPE, 0));
     CHECK(giop_server_outgoing(&server, NULL, 0, &size) == GIOP_OK && size == 0);
     CHECK(giop_server_answer_user(&server, 1, id, 9, 2, (const uint8_t *)"[-1]", 4, &FORM, &fault) == GIOP_OK);
     CHECK(giop_server_outgoing(&server, octets, 128, &size) == GIOP_OK);

@@ -27,8 +27,7 @@ mod request_calls;
 mod server;
 mod shared;
 mod status;
-#[cfg(test)]
-mod tests;
+pub mod threads;
 mod value_form;
 mod values;
 

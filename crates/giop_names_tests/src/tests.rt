@@ -1,3 +1,2 @@
 mod ids;
 mod plain;
-mod refused;

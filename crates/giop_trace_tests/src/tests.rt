@@ -1,6 +1,2 @@
-//! The tests of giop_trace: messages in the order in which they are read, and what is told of each.
-//! What is wanted is worked from the standard's rules (CORBA 3.3 Part 2, 9.4).
-mod calls;
+//! The tests of giop_trace: what a run of `trace` can't say (tests/cases/trace has the others).
 mod memory;
-mod misplaced;
-mod told;
