@@ -5,6 +5,7 @@ ghost use Rattle.giop_show.specs.Status.{status_number};
 ghost use Rattle.giop_connections.specs.Carried.{IsCarriedOut};
 
 mod following;
+mod located;
 
 use crate::locate::following::locate_and_follow;
 use crate::object::{calling_at, object_interface};

@@ -3,8 +3,10 @@
 ghost use Rattle.std.specs.Prelude.{◌≡◌, IfOk, IfErr};
 ghost use Rattle.giop_connections.specs.Carried.{IsCarriedOut};
 ghost use Rattle.giop_commands.specs.Check.{AreLimits};
+ghost use Rattle.giop_dialing.specs.Located.{EndsCarriedOut};
 
 use crate::forwards::{MOST_FORWARDS, place_text};
+use crate::locate::located::Located;
 use crate::object::{calling_at, object_interface};
 use crate::target::{endpoint_of, peer_of, target_text};
 use giop_calling::call::locate_following::{locate_at, located_place};
@@ -50,24 +52,31 @@ fn follow(
 {
     let mut endpoint = first;
     for _ in 0..MOST_FORWARDS {
-        let to = session_at(rt, words, interface, &endpoint, true)?;
-        print_place(rt, &to, "");
-        endpoint = to;
+        match session_at(rt, words, interface, &endpoint, true)? {
+            Located::Elsewhere(to) => {
+                print_place(rt, &to, "");
+                endpoint = to;
+            }
+            Located::Told(status) => return Ok(status),
+        }
     }
-    session_at(rt, words, interface, &endpoint, false)?;
-    Ok(Status::Refused)
+    match session_at(rt, words, interface, &endpoint, false)? {
+        Located::Elsewhere(_) => Ok(Status::Refused),
+        Located::Told(status) => Ok(status),
+    }
 }
 
-// Asks where the object is in a session with that of an endpoint. Returns where it is to be asked
-// for next, if it may be; else what the session came to is told, and its status returned.
+// Asks where the object is in a session with that of an endpoint. Tells what the session came to,
+// unless the object is to be asked for elsewhere, and may be.
 fn session_at(
     rt: &HostRuntime,
     words: ObjectWords,
     interface: &Interface,
     endpoint: &Endpoint,
     may_go_on: bool,
-) -> Result<Endpoint, Status>
-    ensures { IfErr result IsCarriedOut }
+) -> Result<Located, Status>
+    ensures ok { IfOk result EndsCarriedOut }
+    ensures err { IfErr result IsCarriedOut }
 {
     let limits = Limits::default();
     let mut end = ClientEnd::new(rt.alloc(), interface, limits);
@@ -84,22 +93,24 @@ fn ask_by(
     limits: Limits,
     may_go_on: bool,
     end: &mut ClientEnd<'_>,
-) -> Result<Endpoint, Status>
+) -> Result<Located, Status>
     requires interface { end.old.interface.now ≡ interface.now }
     requires limits { end.old.limits ≡ limits }
     requires bounded { AreLimits limits }
-    ensures { IfErr result IsCarriedOut }
+    ensures ok { IfOk result EndsCarriedOut }
+    ensures err { IfErr result IsCarriedOut }
 {
     let peer = peer_of(rt, words.target, endpoint)?;
     let refused = match ask_at(rt, words, interface, endpoint, limits, end) {
         Ok(refused) => refused,
         Err(failure) => {
             let failed = tell_failure(rt, words, interface, end, failure);
-            return Err(endings::call_status(rt, peer.as_str(), words.timeout, Err(failed)));
+            let status = endings::call_status(rt, peer.as_str(), words.timeout, Err(failed));
+            return Ok(Located::Told(status));
         }
     };
     match located_place(rt.alloc(), end) {
-        Ok(Some(to)) if may_go_on => return Ok(to),
+        Ok(Some(to)) if may_go_on => return Ok(Located::Elsewhere(to)),
         Ok(Some(to)) => print_place(
             rt,
             &to,
@@ -109,7 +120,8 @@ fn ask_by(
         Err(failure) => return Err(report::status_of(rt, words.target, Err(failure))),
     }
     let told = tell_answer(rt, words, interface, end, refused);
-    Err(endings::call_status(rt, peer.as_str(), words.timeout, told))
+    let status = endings::call_status(rt, peer.as_str(), words.timeout, told);
+    Ok(Located::Told(status))
 }
 
 fn ask_at(
